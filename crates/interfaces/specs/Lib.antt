@@ -1,0 +1,5 @@
+pub mod Cells
+pub mod Refusals
+pub mod Tasks
+pub mod Traces
+pub mod Printing

@@ -1,0 +1,3 @@
+pub mod Alias
+pub mod AliasFaults
+pub mod Ran
