@@ -11,7 +11,7 @@ use Rattle.std.proofs.shelf.Lists.{drop-more, drop-all, length-drop, append-nil
 use Rattle.std.proofs.shelf.Tests.{cases-lt, lt-ltb, le-ltb}
 use Rattle.interfaces.specs.Cells.{cellCount, cellNumbered}
 use Rattle.std.specs.declared.option.Option.the-variants.{Some, None}
-use Rattle.names.specs.Names.{ByteAt, columnCount, rowCount, rowName, nameOf, NameAt, NoNameAt}
+use Rattle.names.specs.Names.{ByteAt, columnCount, rowCount, rowName, nameOf, NameAt, NoNameAt, One-name}
 
 -- the byte at the place, and what follows
 front : (text : List ℕ) (at x : ℕ) (ys : List ℕ) → drop at text ≡ x ∷ ys → ByteAt text at x × (drop (at + 1) text ≡ ys)
@@ -115,3 +115,34 @@ made-number c n e = ⊎-elim
     (λ l. let t = lt-ltb n cellCount l in let q : Some c ≡ Some n = e ∙ rw t refl in cc)
     (λ l. let t = le-ltb n cellCount l in let q : Some c ≡ None = e ∙ rw t refl in absurd (let z : _≡_ {A = ℕ} 0 1 = cc in omega arith))
     (cases-lt n cellCount)
+
+-- two names that begin one text, the second with a byte behind it that is no digit, are one name
+-- unless the second is the longer
+pub name-ends : (m n b : ℕ) (x v : List ℕ) → m < cellCount → n < cellCount → length (nameOf n) ≤ length (nameOf m) → b < 48 → nameOf m ++ x ≡ nameOf n ++ (b ∷ v) → m ≡ n
+name-ends m n b x v lm ln le lb e = ⊎-elim
+    (λ s. ⊎-elim (short-short s) (short-long s) (cases-lt (n % rowCount + 1) 10))
+    (λ s. ⊎-elim (long-short s) (long-long s) (cases-lt (n % rowCount + 1) 10))
+    (cases-lt (m % rowCount + 1) 10)
+  where
+    short-short : m % rowCount + 1 < 10 → n % rowCount + 1 < 10 → m ≡ n
+    short-short s t =
+      let p = short-row (m % rowCount + 1) s in let q = short-row (n % rowCount + 1) t in
+      let f : 65 + m / rowCount ≡ 65 + n / rowCount = cc in
+      let g : 48 + (m % rowCount + 1) ≡ 48 + (n % rowCount + 1) = cc in omega arith
+    short-long : m % rowCount + 1 < 10 → 10 ≤ n % rowCount + 1 → m ≡ n
+    short-long s t =
+      let p = ap length (short-row (m % rowCount + 1) s) in let q = ap length (long-row (n % rowCount + 1) t) in absurd (omega arith)
+    long-short : 10 ≤ m % rowCount + 1 → n % rowCount + 1 < 10 → m ≡ n
+    long-short s t =
+      let p = long-row (m % rowCount + 1) s in let q = short-row (n % rowCount + 1) t in
+      let g : 48 + (m % rowCount + 1) % 10 ≡ b = cc in absurd (omega arith)
+    long-long : 10 ≤ m % rowCount + 1 → 10 ≤ n % rowCount + 1 → m ≡ n
+    long-long s t =
+      let p = long-row (m % rowCount + 1) s in let q = long-row (n % rowCount + 1) t in
+      let f : 65 + m / rowCount ≡ 65 + n / rowCount = cc in
+      let g : 48 + (m % rowCount + 1) / 10 ≡ 48 + (n % rowCount + 1) / 10 = cc in
+      let h : 48 + (m % rowCount + 1) % 10 ≡ 48 + (n % rowCount + 1) % 10 = cc in omega arith
+
+-- cells with one name are one cell
+pub one-name : One-name
+one-name m n lm ln e = name-ends m n 32 (32 ∷ []) [] lm ln (let l = ap length e in omega arith) (omega arith) (ap (λ x. x ++ (32 ∷ [])) e)

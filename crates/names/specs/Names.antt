@@ -42,7 +42,7 @@ NoNameAt text at = (m : ℕ) (rest : List ℕ) → m < cellCount → drop at tex
 
 -- the text is the name of the cell, or no cell's name
 abbrev pub Named : List ℕ → Option Cell → Type 0
-Named text r = Cases r ((m : ℕ) → m < cellCount → nameOf m ≡ text → ⊥) (λ c. nameOf (numberOf c) ≡ text)
+Named text r = Cases r ((m : ℕ) → m < cellCount → nameOf m ≡ text → ⊥) (λ c. (numberOf c < cellCount) × (nameOf (numberOf c) ≡ text))
 
 -- cells with one name are one cell
 abbrev pub One-name : Type 0

@@ -1,8 +1,8 @@
--- The steps of an alias, and a wiped table. Assumes nothing.
-use Prim.Native.Nat.{ℕ, zero, suc, _<_, _≤_}
+-- The steps of an alias. Assumes nothing.
+use Prim.Native.Nat.{ℕ, _<_}
 use mathlib.Core.Path.{_≡_, refl, sym, ap, _∙_}
 use mathlib.Core.List.{List, [], _∷_, map}
-use lib.ListN.{length, getD, replicate}
+use lib.ListN.{length, getD}
 use native.Mathlib.Omega.{arith}
 use Rattle.std.specs.declared.option.Option.{Option as Maybe}
 use Rattle.std.specs.declared.option.Option.the-variants.{None, Some}
@@ -21,9 +21,3 @@ module _ {V : Type 0} (canon : V → V) (blank : V) where
       → gives (canon v) ≡ stepOf blank (aliasOf o) (map canon answers)
   given o c [] v e l f = absurd (omega arith)
   given o c (w ∷ ws) v e l f = rw e (ap (λ x. gives (canon x)) f)
-
--- every place of a table of one value has that value, and so has every place past it
-pub everywhere : {A : Type 0} (n k : ℕ) (a : A) → getD (replicate n a) k a ≡ a
-everywhere zero k a = refl
-everywhere (suc n) zero a = refl
-everywhere (suc n) (suc k) a = everywhere n k a

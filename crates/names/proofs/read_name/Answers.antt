@@ -22,4 +22,4 @@ pub returns : need.returns
 returns c =
     let n = c .in-Continue-cell .ensures tt in
     let d = drop-all (c .in-Continue-cell .next) (c .args .text .now) (omega (arith, c .if-next-text .left)) in
-    let r = n .reads in let a = append-nil (nameOf (numberOf (c .in-Continue-cell .cell))) in cc
+    let r = n .reads in let a = append-nil (nameOf (numberOf (c .in-Continue-cell .cell))) in (n .within, cc)

@@ -1,7 +1,7 @@
 use mathlib.Core.Path.{ap}
 use Rattle.std.specs.declared.option.Option.the-variants.{None}
 use Rattle.tryout.specs.Alias.{aliasOf}
-use Rattle.tryout.proofs.Steps.{everywhere}
+use Rattle.interfaces.proofs.Tables.{everywhere}
 use Rattle.tryout.proofs.AliasesLanguage.wipe.Needs as need
 
 pub returns : need.returns

@@ -1,0 +1,3 @@
+// Answer lines, written into lent bytes.
+pub mod answers;
+pub mod line;

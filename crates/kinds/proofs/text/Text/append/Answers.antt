@@ -1,0 +1,17 @@
+use mathlib.Core.Path.{_≡_, sym, _∙_, ap, subst}
+use Rattle.std.specs.declared.option.Option.{Option}
+use Rattle.kinds.specs.Text.{textMeans, textExtended, textAppended, Extends}
+use Rattle.kinds.specs.declared.text.Text.{Text}
+use Rattle.kinds.proofs.Packing.{form, extends}
+use Rattle.kinds.proofs.Zeros.{front-padding}
+use Rattle.kinds.proofs.text.Text.append.Needs as need
+
+pub returns : need.returns
+returns c =
+    let t = c .args .self in
+    let more = textMeans (c .args .other) in
+    let f = c .form-len .ensures in
+    let e : c .extended .result ≡ textAppended t (c .args .other) =
+    c .extended .ensures ∙ ap (textExtended t) (front-padding more (c .form-len .result .0) (c .form-len .result .1) (f .bytes) (f .count)) in
+    let P : Option Text → Type 0 = Extends (textMeans t) more in
+    record { equal = e; means = subst P (sym e) (extends t more (form (c .args .other) .printable)) }

@@ -1,0 +1,17 @@
+use mathlib.Core.Path.{sym, _∙_, ap}
+use lib.ListN.{take, drop}
+use Rattle.kinds.specs.Text.{textMeans}
+use Rattle.kinds.proofs.Zeros.{take-padding, drop-padding}
+use Rattle.kinds.proofs.text.TextPrinted.write.Needs as need
+
+pub ghost-result : need.ghost-result
+ghost-result c =
+    let f = c .form-len .ensures in
+    let n = c .form-len .result .1 in
+    (f .short, (ap (drop n) (f .bytes) ∙ drop-padding (textMeans (c .args .self .now)) n (sym (f .count)), tt))
+
+pub returns : need.returns
+returns c =
+    let f = c .form-len .ensures in
+    let n = c .form-len .result .1 in
+    ap (take n) (f .bytes) ∙ take-padding (textMeans (c .args .self .now)) n (sym (f .count))
