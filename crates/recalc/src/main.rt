@@ -1,6 +1,6 @@
-// Reads a script from standard input and prints its answers. All of the work is in `script`.
+// Reads a script from standard input and prints its answers. All of the work is in `session`.
 use script::lines::SCRIPT;
-use script::session::run;
+use session::run;
 use std::io;
 use std::io::Read;
 use std::io::Write;

@@ -1,4 +1,3 @@
-// Scripts: their lines, and what a whole script prints.
+// Scripts: their lines, by their forms.
 pub mod lines;
 pub mod reading;
-pub mod session;

@@ -1,5 +1,5 @@
 // Runs the scripts in `data/` and compares what they print with what they should: NAME.in and NAME.out.
-use script::session::run;
+use session::run;
 use std::fs;
 use std::io;
 

@@ -1,0 +1,16 @@
+pub mod Lists
+pub mod Alone
+pub mod Total
+pub mod Whole
+pub mod Elsewhere
+pub mod Cert
+pub mod Fitting
+pub mod Leading
+pub mod Table
+pub mod Since
+pub mod Doubt
+pub mod Kept
+pub mod Decided
+pub mod Room
+pub mod Layers
+pub mod Samples

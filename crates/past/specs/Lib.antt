@@ -1,0 +1,5 @@
+pub mod Afresh
+pub mod Past
+pub mod Law
+pub mod Theorems
+pub mod Sample
