@@ -32,9 +32,10 @@ pub wrote-more : {ws orig bytes : List ℕ} {len : ℕ} (src bytes′ : List ℕ
     → len + length src ≤ length bytes → len′ ≡ len + length src → bytes′ ≡ paste bytes len src (length src)
     → Wrote (ws ++ src) orig bytes′ len′
 wrote-more {ws} {orig} {bytes} {len} src bytes′ len′ w le l e = record {
-    holds = let m = w .long in let h = w .holds in let q = pasted ws orig src in cc;
-    long = l ∙ ap (λ n. n + length src) (w .long) ∙ sym (length-append ws src);
-    fits = let n = wrote-length w in let k = length-append ws src in let m = w .long in omega arith }
+  holds = let m = w .long in let h = w .holds in let q = pasted ws orig src in cc;
+  long = l ∙ ap (λ n. n + length src) (w .long) ∙ sym (length-append ws src);
+  fits = let n = wrote-length w in let k = length-append ws src in let m = w .long in omega arith;
+}
 
 -- bytes that do not fit are more than the buffer takes
 pub wrote-full : {ws orig bytes : List ℕ} {len : ℕ} (src : List ℕ) → Wrote ws orig bytes len → length bytes < len + length src → length orig < length (ws ++ src)
@@ -55,18 +56,18 @@ joined-append f (x ∷ xs) ys = ap (λ z. f x ++ z) (joined-append f xs ys) ∙ 
 
 pub joined-step : {X : Type 0} (f : X → List ℕ) (xs : List X) (i : ℕ) (d : X) → i < length xs → joined f (take (i + 1) xs) ≡ joined f (take i xs) ++ f (getD xs i d)
 joined-step f xs i d l =
-  let t = take-more xs i d l in
-  let j = joined-append f (take i xs) (getD xs i d ∷ []) in
-  let n = append-nil (f (getD xs i d)) in cc
+    let t = take-more xs i d l in
+    let j = joined-append f (take i xs) (getD xs i d ∷ []) in
+    let n = append-nil (f (getD xs i d)) in cc
 
 -- some of the pieces are no longer than all of them
 pub joined-within : {X : Type 0} (f : X → List ℕ) (xs : List X) (n : ℕ) → length (joined f (take n xs)) ≤ length (joined f xs)
 joined-within f xs n =
-  let t = take-append-drop n xs in
-  let j = joined-append f (take n xs) (drop n xs) in
-  let e : joined f xs ≡ joined f (take n xs) ++ joined f (drop n xs) = cc in
-  let l = length-append (joined f (take n xs)) (joined f (drop n xs)) in
-  let m = ap length e in omega arith
+    let t = take-append-drop n xs in
+    let j = joined-append f (take n xs) (drop n xs) in
+    let e : joined f xs ≡ joined f (take n xs) ++ joined f (drop n xs) = cc in
+    let l = length-append (joined f (take n xs)) (joined f (drop n xs)) in
+    let m = ap length e in omega arith
 
 pub joined-all : {X : Type 0} (f : X → List ℕ) (xs : List X) (n : ℕ) → length xs ≤ n → joined f (take n xs) ≡ joined f xs
 joined-all f xs n l = ap (joined f) (take-all n xs l)

@@ -32,9 +32,9 @@ small n l = length-decimal-le 3 n (omega arith) (omega arith) (omega arith)
 
 pub at-short : (n p : ℕ) → n < 256 → p < 256 → length (refusalLine (noAt n p)) ≤ 39
 at-short n p l m =
-  let a = length-append (decimal n) (codes " " ++ (decimal p ++ 10 ∷ [])) in
-  let b = length-append (decimal p) (10 ∷ []) in
-  let s = small n l in let t = small p m in omega arith
+    let a = length-append (decimal n) (codes " " ++ (decimal p ++ 10 ∷ [])) in
+    let b = length-append (decimal p) (10 ∷ []) in
+    let s = small n l in let t = small p m in omega arith
 
 pub bare-short : (n : ℕ) → n < 256 → length (refusalLine (no n)) ≤ 39
 bare-short n l = let a = length-append (decimal n) (10 ∷ []) in let s = small n l in omega arith
@@ -44,6 +44,6 @@ form-short w = let t = length-take (w .len) (w .bytes) in let f = w .fits in ome
 
 pub value-short : (cell : ℕ) (bytes : List ℕ) → length bytes ≤ 32 → length (valueLine cell bytes) ≤ 39
 value-short cell bytes l =
-  let a = length-append (nameOf cell) (codes " = " ++ (bytes ++ 10 ∷ [])) in
-  let b = length-append bytes (10 ∷ []) in
-  let n = name-length cell in omega arith
+    let a = length-append (nameOf cell) (codes " = " ++ (bytes ++ 10 ∷ [])) in
+    let b = length-append bytes (10 ∷ []) in
+    let n = name-length cell in omega arith

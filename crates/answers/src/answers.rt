@@ -10,8 +10,8 @@ use crate::line::write_line;
 use interfaces::cell::Cell;
 use interfaces::refusal::Refusal;
 use interfaces::value::Printed;
-use kinds::whole::write_number;
 use names::write_name;
+use whole::write_number;
 
 /// `ok`
 pub fn write_ok(buffer: &mut [u8]) -> Result<usize, Refusal>
@@ -31,7 +31,10 @@ pub fn write_refusal(buffer: &mut [u8], refusal: Refusal) -> Result<usize, Refus
     match refusal.place() {
         Some(place) => {
             let place = write_number(place as u32);
-            write_line(buffer, &[b"no ", number.as_slice(), b" ", place.as_slice(), b"\n"])
+            write_line(
+                buffer,
+                &[b"no ", number.as_slice(), b" ", place.as_slice(), b"\n"],
+            )
         }
         None => write_line(buffer, &[b"no ", number.as_slice(), b"\n"]),
     }

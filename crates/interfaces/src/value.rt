@@ -1,13 +1,15 @@
 // Kinds of value, and those that can be read from bytes and written as bytes.
 ghost use mathlib.Core.Path.{_≡_};
 ghost use mathlib.Core.Bool.{Bool, true};
-ghost use mathlib.Core.List.{List};
-ghost use Prim.Native.Nat.{ℕ, _≤_};
-ghost use lib.ListN.{length, take};
+ghost use mathlib.Core.List.{List, _++_};
+ghost use Prim.Native.Nat.{ℕ, _+_, _≤_};
+ghost use lib.ListN.{length, take, drop};
+ghost use Rattle.std.specs.Options.{mapped};
 ghost use Rattle.std.specs.Results.{Cases};
-ghost use Rattle.interfaces.specs.Printing.{writtenBytes};
+ghost use Rattle.interfaces.specs.Printing.{writtenBytes, writtenPieces};
 ghost use Rattle.interfaces.specs.Refusals.{Said, said, no};
 use crate::refusal::Refusal;
+use crate::written::WRITTEN;
 use crate::written::Written;
 
 /// A kind of value. A record means its normal form: two values mean the same if they have one normal form.
@@ -65,6 +67,29 @@ impl Written {
     {
         &self.bytes[0..self.len]
     }
+
+    /// The written form that two pieces make, one behind the other, if they fit.
+    pub fn from_pieces(front: &[u8], rest: &[u8]) -> Option<Written>
+        ensures { λ r. ⌜ mapped writtenBytes r ≡ writtenPieces (now (front .entry)) (now (rest .entry)) ⌝ }
+    {
+        if front.len() > WRITTEN || rest.len() > WRITTEN - front.len() {
+            return None;
+        }
+        let len = front.len() + rest.len();
+        let mut bytes = [0; WRITTEN];
+        put(&mut bytes, 0, front);
+        put(&mut bytes, front.len(), rest);
+        Some(Written { bytes, len })
+    }
+}
+
+// Writes a piece over the bytes from `at` on.
+fn put(bytes: &mut [u8], at: usize, piece: &[u8])
+    requires { ⌜ at + length (now piece) ≤ length (now bytes) ⌝ }
+    ensures { λ _. ⌜ now (bytes .exit) ≡ take at (now (bytes .entry)) ++ (now (piece .entry) ++ drop (at + length (now (piece .entry))) (now (bytes .entry))) ⌝ }
+{
+    let end = at + piece.len();
+    bytes[at..end].copy_from_slice(piece);
 }
 
 /// Writes a value and reads it back: what comes back means the same, and no written form is refused.

@@ -126,22 +126,25 @@ name-ends m n b x v lm ln le lb e = ⊎-elim
   where
     short-short : m % rowCount + 1 < 10 → n % rowCount + 1 < 10 → m ≡ n
     short-short s t =
-      let p = short-row (m % rowCount + 1) s in let q = short-row (n % rowCount + 1) t in
-      let f : 65 + m / rowCount ≡ 65 + n / rowCount = cc in
-      let g : 48 + (m % rowCount + 1) ≡ 48 + (n % rowCount + 1) = cc in omega arith
+        let p = short-row (m % rowCount + 1) s in let q = short-row (n % rowCount + 1) t in
+        let f : 65 + m / rowCount ≡ 65 + n / rowCount = cc in
+        let g : 48 + (m % rowCount + 1) ≡ 48 + (n % rowCount + 1) = cc in omega arith
+
     short-long : m % rowCount + 1 < 10 → 10 ≤ n % rowCount + 1 → m ≡ n
     short-long s t =
-      let p = ap length (short-row (m % rowCount + 1) s) in let q = ap length (long-row (n % rowCount + 1) t) in absurd (omega arith)
+        let p = ap length (short-row (m % rowCount + 1) s) in let q = ap length (long-row (n % rowCount + 1) t) in absurd (omega arith)
+
     long-short : 10 ≤ m % rowCount + 1 → n % rowCount + 1 < 10 → m ≡ n
     long-short s t =
-      let p = long-row (m % rowCount + 1) s in let q = short-row (n % rowCount + 1) t in
-      let g : 48 + (m % rowCount + 1) % 10 ≡ b = cc in absurd (omega arith)
+        let p = long-row (m % rowCount + 1) s in let q = short-row (n % rowCount + 1) t in
+        let g : 48 + (m % rowCount + 1) % 10 ≡ b = cc in absurd (omega arith)
+
     long-long : 10 ≤ m % rowCount + 1 → 10 ≤ n % rowCount + 1 → m ≡ n
     long-long s t =
-      let p = long-row (m % rowCount + 1) s in let q = long-row (n % rowCount + 1) t in
-      let f : 65 + m / rowCount ≡ 65 + n / rowCount = cc in
-      let g : 48 + (m % rowCount + 1) / 10 ≡ 48 + (n % rowCount + 1) / 10 = cc in
-      let h : 48 + (m % rowCount + 1) % 10 ≡ 48 + (n % rowCount + 1) % 10 = cc in omega arith
+        let p = long-row (m % rowCount + 1) s in let q = long-row (n % rowCount + 1) t in
+        let f : 65 + m / rowCount ≡ 65 + n / rowCount = cc in
+        let g : 48 + (m % rowCount + 1) / 10 ≡ 48 + (n % rowCount + 1) / 10 = cc in
+        let h : 48 + (m % rowCount + 1) % 10 ≡ 48 + (n % rowCount + 1) % 10 = cc in omega arith
 
 -- cells with one name are one cell
 pub one-name : One-name

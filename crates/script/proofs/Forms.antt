@@ -23,14 +23,14 @@ alone (b ∷ c ∷ bs) x l e = absurd (omega arith)
 -- a name that a space follows is the name that was read
 pub name-space : (rest : List ℕ) (n next c : ℕ) (value : List ℕ) → NameAt rest 0 n next → c < cellCount → rest ≡ nameOf c ++ (32 ∷ value) → n ≡ c
 name-space rest n next c value a l e =
-  name-ends n c 32 (drop next rest) value (a .within) l (a .longest c (32 ∷ value) l e) (omega arith) (sym (a .reads) ∙ e)
+    name-ends n c 32 (drop next rest) value (a .within) l (a .longest c (32 ∷ value) l e) (omega arith) (sym (a .reads) ∙ e)
 
 -- so the space stands behind it
 pub space-behind : (rest : List ℕ) (n next c : ℕ) (value : List ℕ) → NameAt rest 0 n next → c < cellCount → rest ≡ nameOf c ++ (32 ∷ value) → drop next rest ≡ 32 ∷ value
 space-behind rest n next c value a l e =
-  let s = name-space rest n next c value a l e in
-  let r = a .reads in
-  append-cancel-left (nameOf n) (drop next rest) (32 ∷ value) (cc)
+    let s = name-space rest n next c value a l e in
+    let r = a .reads in
+    append-cancel-left (nameOf n) (drop next rest) (32 ∷ value) (cc)
 
 -- what stands past the place, if a byte stands there
 pub byte-behind : (rest : List ℕ) (next x : ℕ) (value : List ℕ) → drop next rest ≡ x ∷ value → next < length rest → getD rest next 0 ≡ x
@@ -55,9 +55,9 @@ get-only rest r d = go _ r d refl
 pub one-set : (c d : ℕ) (v w : List ℕ) → c < cellCount → d < cellCount → nameOf c ++ (32 ∷ v) ≡ nameOf d ++ (32 ∷ w) → _≡_ {A = Request} (sets c v) (sets d w)
 one-set c d v w lc ld e =
     let n : c ≡ d = ⊎-elim
-      (λ (l : length (nameOf d) < length (nameOf c) + 1). name-ends c d 32 (32 ∷ v) w lc ld (omega arith) (omega arith) e)
-      (λ (l : length (nameOf c) + 1 ≤ length (nameOf d)). sym (name-ends d c 32 (32 ∷ w) v ld lc (omega arith) (omega arith) (sym e)))
-      (cases-lt (length (nameOf d)) (length (nameOf c) + 1)) in
+    (λ (l : length (nameOf d) < length (nameOf c) + 1). name-ends c d 32 (32 ∷ v) w lc ld (omega arith) (omega arith) e)
+    (λ (l : length (nameOf c) + 1 ≤ length (nameOf d)). sym (name-ends d c 32 (32 ∷ w) v ld lc (omega arith) (omega arith) (sym e)))
+    (cases-lt (length (nameOf d)) (length (nameOf c) + 1)) in
     let f : nameOf c ++ (32 ∷ v) ≡ nameOf c ++ (32 ∷ w) = e ∙ ap (λ x. nameOf x ++ (32 ∷ w)) (sym n) in
     let g = append-cancel-left (nameOf c) (32 ∷ v) (32 ∷ w) f in cc
 

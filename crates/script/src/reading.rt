@@ -48,11 +48,17 @@ pub fn read_opening(line: &[u8]) -> Result<Opening, Refusal>
 {
     if let Some(rest) = after(line, b"sheet ") {
         let depth = read_depth(rest)?;
-        return Ok(Opening { kind: Kind::Sheet, depth });
+        return Ok(Opening {
+            kind: Kind::Sheet,
+            depth,
+        });
     }
     if let Some(rest) = after(line, b"text ") {
         let depth = read_depth(rest)?;
-        return Ok(Opening { kind: Kind::Text, depth });
+        return Ok(Opening {
+            kind: Kind::Text,
+            depth,
+        });
     }
     Err(Refusal::BadFirstLine)
 }

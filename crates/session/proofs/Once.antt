@@ -16,10 +16,10 @@ use Rattle.interfaces.specs.Refusals.{Said, no}
 use Rattle.names.specs.Names.{nameOf}
 use Rattle.names.proofs.Standing.{one-name}
 use Rattle.answers.specs.Answers.{okLine, refusalLine, valueLine}
-use Rattle.kinds.specs.declared.whole.Whole.{Whole}
-use Rattle.kinds.specs.declared.text.Text.{Text as TextValue}
-use Rattle.kinds.specs.Whole.{wholeBlank, writtenWhole}
-use Rattle.kinds.specs.Text.{textBlank, textMeans}
+use Rattle.whole.specs.declared.Whole.{Whole}
+use Rattle.text.specs.declared.Text.{Text as TextValue}
+use Rattle.whole.specs.Whole.{wholeBlank, writtenWhole}
+use Rattle.text.specs.Text.{textBlank, textMeans}
 use Rattle.script.specs.declared.lines.Kind.{Kind}
 use Rattle.script.specs.declared.lines.Kind.the-variants.{Sheet, Text}
 use Rattle.script.specs.declared.lines.Depth.{Depth}
@@ -76,9 +76,9 @@ module _ {V : Type 0} (written : V → List ℕ) (unread : ℕ) (locked : ℕ �
   alike-but : (s t : ℕ → V) (c : ℕ) (v w : V) → Alike s t → written v ≡ written w → Alike (but c v s) (but c w t)
   unfolding Alike
   alike-but s t c v w a e k = ⊎-elim
-    (λ h. ap written (cond-true (eqb k c) v (s k) h) ∙ e ∙ sym (ap written (cond-true (eqb k c) w (t k) h)))
-    (λ h. ap written (cond-false (eqb k c) v (s k) h) ∙ a k ∙ sym (ap written (cond-false (eqb k c) w (t k) h)))
-    (cases-bool (eqb k c))
+      (λ h. ap written (cond-true (eqb k c) v (s k) h) ∙ e ∙ sym (ap written (cond-true (eqb k c) w (t k) h)))
+      (λ h. ap written (cond-false (eqb k c) v (s k) h) ∙ a k ∙ sym (ap written (cond-false (eqb k c) w (t k) h)))
+      (cases-bool (eqb k c))
 
   -- edits of one cell by the same bytes answer alike and leave tables that print alike
   one-edit : (s t : ℕ → V) (c : ℕ) (b : List ℕ) (q r : Result (Unit {0}) Said) (u w : ℕ → V) → Alike s t → Edited written unread locked s c b q u → Edited written unread locked t c b r w
@@ -101,27 +101,27 @@ module _ {V : Type 0} (written : V → List ℕ) (unread : ℕ) (locked : ℕ �
   one-answer s t l m o p u w e a (refused x h) (shown c k d) = absurd (not-said l x _ h (rw (← e) at k) (rw (← e) at d))
   one-answer s t l m o p u w e a (edited c b r z k d f) (refused y j) = absurd (not-said m y _ j (rw e at k) (rw e at d))
   one-answer s t l m o p u w e a (edited c b r z k d f) (edited c′ b′ r′ z′ k′ d′ f′) =
-    let q = one-reading l m _ _ e d d′ in
-    let n : c ≡ c′ = cc in let v : b ≡ b′ = cc in
-    let i = one-edit s t c b r r′ z z′ a f (rw (← n, ← v) at f′) in
-    (ap answerLine (i .0), i .1)
+      let q = one-reading l m _ _ e d d′ in
+      let n : c ≡ c′ = cc in let v : b ≡ b′ = cc in
+      let i = one-edit s t c b r r′ z z′ a f (rw (← n, ← v) at f′) in
+      (ap answerLine (i .0), i .1)
   one-answer s t l m o p u w e a (edited c b r z k d f) (shown c′ k′ d′) = absurd (let q = one-reading l m _ _ e d d′ in let y : _≡_ {A = ℕ} 0 1 = cc in omega arith)
   one-answer s t l m o p u w e a (shown c k d) (refused y j) = absurd (not-said m y _ j (rw e at k) (rw e at d))
   one-answer s t l m o p u w e a (shown c k d) (edited c′ b r z k′ d′ f) = absurd (let q = one-reading l m _ _ e d d′ in let y : _≡_ {A = ℕ} 0 1 = cc in omega arith)
   one-answer s t l m o p u w e a (shown c k d) (shown c′ k′ d′) =
-    let q = one-reading l m _ _ e d d′ in
-    let n : c ≡ c′ = cc in
-    (ap (λ x. valueLine x (written (s x))) n ∙ ap (valueLine c′) (a c′), a)
+      let q = one-reading l m _ _ e d d′ in
+      let n : c ≡ c′ = cc in
+      (ap (λ x. valueLine x (written (s x))) n ∙ ap (valueLine c′) (a c′), a)
 
   one-session : (s t : ℕ → V) (b c o p : List ℕ) → b ≡ c → Alike s t → Session written unread locked s b o → Session written unread locked t c p → o ≡ p
   one-session s t b c o p e a over over = refl
   one-session s t b c o p e a over (goes d f g) = absurd (no-cut _ _ _ (ap length (sym e)) d)
   one-session s t b c o p e a (goes d f g) over = absurd (no-cut _ _ _ (ap length e) d)
   one-session s t b c o p e a (goes d f g) (goes d′ f′ g′) =
-    let i = one-cut _ _ _ _ _ _ e d d′ in
-    let j = one-answer s t _ _ _ _ _ _ (i .0) a f f′ in
-    let k = one-session _ _ _ _ _ _ (i .1) (j .1) g g′ in
-    let j0 = j .0 in cc
+      let i = one-cut _ _ _ _ _ _ e d d′ in
+      let j = one-answer s t _ _ _ _ _ _ (i .0) a f f′ in
+      let k = one-session _ _ _ _ _ _ (i .1) (j .1) g g′ in
+      let j0 = j .0 in cc
 
 -- a first line names one kind
 one-kind : (line line′ : List ℕ) (k k′ : Kind) (d d′ : Depth) → line ≡ line′ → Opens line k d → Opens line′ k′ d′ → k ≡ k′
@@ -145,6 +145,6 @@ one-transcript input o p (unopened l n) (opened k d m c a s) = absurd (n _ _ k d
 one-transcript input o p (opened k d l c a s) (tooLong m) = absurd (omega arith)
 one-transcript input o p (opened k d l c a s) (unopened m n) = absurd (n _ _ k d c a)
 one-transcript input o p (opened k d l c a s) (opened k′ d′ m c′ a′ s′) =
-  let i = one-cut input input _ _ _ _ refl c c′ in
-  let j = one-kind _ _ k k′ d d′ (i .0) a a′ in
-  ap (λ x. okLine ++ x) (one-session-of k _ _ _ _ (i .1) s (rw (← j) at s′))
+    let i = one-cut input input _ _ _ _ refl c c′ in
+    let j = one-kind _ _ k k′ d d′ (i .0) a a′ in
+    ap (λ x. okLine ++ x) (one-session-of k _ _ _ _ (i .1) s (rw (← j) at s′))

@@ -28,21 +28,21 @@ unbroken (b ∷ bs) h = (h 0 (omega arith), unbroken bs (λ k l e. h (suc k) (om
 -- the bytes before the first break have none
 before-break : (bytes : List ℕ) (place : ℕ) → BreakAt bytes place → Unbroken (take place bytes)
 before-break bytes place b = unbroken (take place bytes) (λ k l e.
-  let n = length-take-le place bytes (b .within) in
-  b .before k (omega arith) (sym (getD-take place bytes k 0 (omega arith)) ∙ e))
+    let n = length-take-le place bytes (b .within) in
+    b .before k (omega arith) (sym (getD-take place bytes k 0 (omega arith)) ∙ e))
 
 pub cut-ended : (bytes : List ℕ) (place : ℕ) → BreakAt bytes place → place < length bytes → Cut bytes (take place bytes) (drop (place + 1) bytes)
 cut-ended bytes place b l =
-  let t = take-append-drop place bytes in
-  let d = drop-more bytes place 0 l in
-  let h = b .here l in
-  let e : bytes ≡ take place bytes ++ 10 ∷ drop (place + 1) bytes = cc in
-  let P : List ℕ → Type 0 = λ x. Cut x (take place bytes) (drop (place + 1) bytes) in
-  rw (← e) at (ended (take place bytes) (drop (place + 1) bytes) (before-break bytes place b))
+    let t = take-append-drop place bytes in
+    let d = drop-more bytes place 0 l in
+    let h = b .here l in
+    let e : bytes ≡ take place bytes ++ 10 ∷ drop (place + 1) bytes = cc in
+    let P : List ℕ → Type 0 = λ x. Cut x (take place bytes) (drop (place + 1) bytes) in
+    rw (← e) at (ended (take place bytes) (drop (place + 1) bytes) (before-break bytes place b))
 
 pub cut-last : (bytes : List ℕ) (place : ℕ) → BreakAt bytes place → length bytes ≤ place → 0 < length bytes → Cut bytes bytes []
 cut-last bytes place b l p =
-  last bytes (unbroken bytes (λ k h e. b .before k (omega arith) e)) p
+    last bytes (unbroken bytes (λ k h e. b .before k (omega arith) e)) p
 
 module _ {V : Type 0} (written : V → List ℕ) (unread : ℕ) (canon : V → V) (locked : ℕ → Bool) where
   -- a write of a value that was read
@@ -52,9 +52,9 @@ module _ {V : Type 0} (written : V → List ℕ) (unread : ℕ) (canon : V → V
       → ((k : ℕ) → after k ≡ cond (locked c) (before k) (but c (canon v) before k))
       → Edited written unread locked before c bytes r after
   edit-taken before after c bytes v r l w o a f =
-    let q : r ≡ Ok tt = a ∙ cond-false _ _ _ l in
-    let s : after ≡ but c (canon v) before = fun-ext (λ k. f k ∙ cond-false _ _ _ l) in
-    rw (q, s) (taken (canon v) l (o ∙ w))
+      let q : r ≡ Ok tt = a ∙ cond-false _ _ _ l in
+      let s : after ≡ but c (canon v) before = fun-ext (λ k. f k ∙ cond-false _ _ _ l) in
+      rw (q, s) (taken (canon v) l (o ∙ w))
 
   -- bytes that are no value
   pub edit-unfit : (before : ℕ → V) (c : ℕ) (bytes : List ℕ) (r : Result (Unit {0}) Said) → locked c ≡ false → ((v : V) → written v ≡ bytes → ⊥)
@@ -65,24 +65,24 @@ module _ {V : Type 0} (written : V → List ℕ) (unread : ℕ) (canon : V → V
   pub shows-as : (state : ℕ → V) (line : List ℕ) (c : ℕ) (v : V) → length line ≤ lineLimit → Reads line (gets c)
       → written (canon v) ≡ written v → canon v ≡ state c → Answered written unread locked state line (valueLine c (written v)) state
   shows-as state line c v l d o e =
-    let q : written (state c) ≡ written v = ap written (sym e) ∙ o in
-    rw (← ap (valueLine c) q) (shown c l d)
+      let q : written (state c) ≡ written v = ap written (sym e) ∙ o in
+      rw (← ap (valueLine c) q) (shown c l d)
 
 -- a line that fits its buffer was answered with its length, and stands at the front
 pub fits : (out buffer left : List ℕ) (len : ℕ) → length out ≤ length buffer → _≡_ {A = Result ℕ Said} (Ok len) (lineAnswer out buffer) → left ≡ lineLeft out buffer → take len left ≡ out
 fits out buffer left len l a e =
-  let t = le-leb (length out) (length buffer) l in
-  let q : _≡_ {A = Result ℕ Said} (Ok len) (Ok (length out)) = a ∙ cond-true _ _ _ t in
-  let n : len ≡ length out = cc in
-  let f : left ≡ overFront out buffer = e ∙ cond-true _ _ _ t in
-  let p = take-at out (drop (length out) buffer) len (sym n) in cc
+    let t = le-leb (length out) (length buffer) l in
+    let q : _≡_ {A = Result ℕ Said} (Ok len) (Ok (length out)) = a ∙ cond-true _ _ _ t in
+    let n : len ≡ length out = cc in
+    let f : left ≡ overFront out buffer = e ∙ cond-true _ _ _ t in
+    let p = take-at out (drop (length out) buffer) len (sym n) in cc
 
 -- and is not refused
 pub never-broken : (out buffer : List ℕ) (s : Said) → length out ≤ length buffer → _≡_ {A = Result ℕ Said} (Err s) (lineAnswer out buffer) → ⊥
 never-broken out buffer s l a =
-  let t = le-leb (length out) (length buffer) l in
-  let q : _≡_ {A = Result ℕ Said} (Err s) (Ok (length out)) = a ∙ cond-true _ _ _ t in
-  let z : _≡_ {A = ℕ} 0 1 = cc in omega arith
+    let t = le-leb (length out) (length buffer) l in
+    let q : _≡_ {A = Result ℕ Said} (Err s) (Ok (length out)) = a ∙ cond-true _ _ _ t in
+    let z : _≡_ {A = ℕ} 0 1 = cc in omega arith
 
 module _ {V : Type 0} (written : V → List ℕ) (unread : ℕ) (locked : ℕ → Bool) where
   -- in the midst of a session: what was printed so far, and that what is left completes it
@@ -100,20 +100,21 @@ module _ {V : Type 0} (written : V → List ℕ) (unread : ℕ) (locked : ℕ �
       → 39 ≤ length buffer → r ≡ Ok len → out′ ≡ out ++ take len left → ((k : ℕ) → locks′ k ≡ locks k)
       → Under start lines before after locks′ next out′
   under-more {start} {state} {after} {lines} {before} {rest} {out} {line} {next} {buffer} {left} {locks} {locks′} out′ len u d w b o e k =
-    let f : locks ≡ locked = fun-ext (u .locks-are) in
-    let t = fits (w .out) buffer left len (omega (arith, w .short)) (sym o ∙ w .answer-is) (w .left-is) in
-    let a : Answered written unread locked state line (w .out) after = rw f at (w .answered) in
-    record {
-      printed = u .printed ++ w .out;
-      out-is = let x = u .out-is in let y = append-assoc before (u .printed) (w .out) in cc;
-      going = λ more s. rw (append-assoc (u .printed) (w .out) more) (u .going (w .out ++ more) (goes d a s));
-      locks-are = λ j. k j ∙ u .locks-are j }
+      let f : locks ≡ locked = fun-ext (u .locks-are) in
+      let t = fits (w .out) buffer left len (omega (arith, w .short)) (sym o ∙ w .answer-is) (w .left-is) in
+      let a : Answered written unread locked state line (w .out) after = rw f at (w .answered) in
+      record {
+        printed = u .printed ++ w .out;
+        out-is = let x = u .out-is in let y = append-assoc before (u .printed) (w .out) in cc;
+        going = λ more s. rw (append-assoc (u .printed) (w .out) more) (u .going (w .out ++ more) (goes d a s));
+        locks-are = λ j. k j ∙ u .locks-are j;
+      }
 
   pub under-all : {start state : ℕ → V} {lines before rest out : List ℕ} {locks : ℕ → Bool} → Under start lines before state locks rest out → length rest ≡ 0
       → (printed : List ℕ) × (out ≡ before ++ printed) × Session written unread locked start lines printed
   under-all {start} {state} {lines} {before} {rest} u l =
-    let n = nil-from-length rest l in
-    (u .printed, u .out-is, rw (append-nil (u .printed)) at (u .going [] (rw n over)))
+      let n = nil-from-length rest l in
+      (u .printed, u .out-is, rw (append-nil (u .printed)) at (u .going [] (rw n over)))
 
 -- what was appended, where memory was found
 pub appended : {E : Type 0} (r : Result (Unit {0}) E) (x y z w : List ℕ) → x ≡ cond (isOk r) y z → y ≡ w → made r (λ _. x ≡ w)

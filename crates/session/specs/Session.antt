@@ -9,10 +9,10 @@ use Rattle.std.specs.declared.result.Result.{Result}
 use Rattle.std.specs.declared.result.Result.the-variants.{Ok, Err}
 use Rattle.interfaces.specs.Cells.{but}
 use Rattle.interfaces.specs.Refusals.{Said, no}
-use Rattle.kinds.specs.declared.whole.Whole.{Whole}
-use Rattle.kinds.specs.declared.text.Text.{Text as TextValue}
-use Rattle.kinds.specs.Whole.{wholeBlank, writtenWhole}
-use Rattle.kinds.specs.Text.{textBlank, textMeans}
+use Rattle.whole.specs.declared.Whole.{Whole}
+use Rattle.text.specs.declared.Text.{Text as TextValue}
+use Rattle.whole.specs.Whole.{wholeBlank, writtenWhole}
+use Rattle.text.specs.Text.{textBlank, textMeans}
 use Rattle.answers.specs.Answers.{okLine, refusalLine, valueLine}
 use Rattle.answers.specs.Fronts.{lineAnswer, lineLeft}
 use Rattle.script.specs.declared.lines.Kind.{Kind}
@@ -40,7 +40,7 @@ module _ {V : Type 0} (written : V → List ℕ) (unread : ℕ) (locked : ℕ �
   pub data Answered (state : ℕ → V) (line : List ℕ) : List ℕ → (ℕ → V) → Type 0 where
     refused : (s : Said) → Unread line s → Answered state line (refusalLine s) state
     edited : (c : ℕ) (bytes : List ℕ) (r : Result (Unit {0}) Said) (after : ℕ → V) → length line ≤ lineLimit
-      → Reads line (sets c bytes) → Edited state c bytes r after → Answered state line (answerLine r) after
+        → Reads line (sets c bytes) → Edited state c bytes r after → Answered state line (answerLine r) after
     shown : (c : ℕ) → length line ≤ lineLimit → Reads line (gets c) → Answered state line (valueLine c (written (state c))) state
 
   -- one line was answered in a buffer: its answer stands at the front, and is short
@@ -55,7 +55,7 @@ module _ {V : Type 0} (written : V → List ℕ) (unread : ℕ) (locked : ℕ �
   pub data Session : (ℕ → V) → List ℕ → List ℕ → Type 0 where
     over : {state : ℕ → V} → Session state [] []
     goes : {state after : ℕ → V} {bytes line rest out more : List ℕ} → Cut bytes line rest → Answered state line out after
-      → Session after rest more → Session state bytes (out ++ more)
+        → Session after rest more → Session state bytes (out ++ more)
 
 -- what the lines behind a first line print: a table of blanks of the kind that it names, with no cell locked
 abbrev pub SessionOf : Kind → List ℕ → List ℕ → Type 0
@@ -66,9 +66,9 @@ SessionOf Text = Session {V = TextValue} textMeans 8 (λ _. false) (λ _. textBl
 pub data Transcript (input : List ℕ) : List ℕ → Type 0 where
   long : scriptLimit < length input → Transcript input (refusalLine (no 21))
   unopened : length input ≤ scriptLimit → ((first rest : List ℕ) (k : Kind) (d : Depth) → Cut input first rest → Opens first k d → ⊥)
-    → Transcript input (refusalLine (no 20))
+      → Transcript input (refusalLine (no 20))
   opened : (k : Kind) (d : Depth) {first rest out : List ℕ} → length input ≤ scriptLimit → Cut input first rest → Opens first k d
-    → SessionOf k rest out → Transcript input (okLine ++ out)
+      → SessionOf k rest out → Transcript input (okLine ++ out)
 
 -- a script prints one thing only
 abbrev pub One-transcript : Type 0

@@ -12,29 +12,29 @@ ghost use Rattle.answers.specs.Answers.{okLine, refusalLine};
 ghost use Rattle.answers.specs.Fronts.{lineAnswer, lineLeft};
 ghost use Rattle.script.specs.Lines.{Cut, BreakAt, ReadAs, asked};
 ghost use Rattle.session.specs.Session.{answerLimit, Edited, Wrote, Session, SessionOf, Transcript, One-transcript};
+use answers::answers::write_ok;
+use answers::answers::write_refusal;
+use answers::answers::write_value;
+use interfaces::cell::CELLS;
+use interfaces::cell::Cell;
+use interfaces::refusal::Refusal;
+use interfaces::store::Store;
+use interfaces::value::Printed;
 use script::lines::Kind;
 use script::lines::Line;
 use script::lines::SCRIPT;
 use script::reading::read_line;
 use script::reading::read_opening;
-use answers::answers::write_ok;
-use answers::answers::write_refusal;
-use answers::answers::write_value;
-use interfaces::cell::Cell;
-use interfaces::cell::CELLS;
-use interfaces::refusal::Refusal;
-use interfaces::store::Store;
-use interfaces::value::Printed;
-use kinds::text::Text;
-use kinds::text::TextPrinted;
-use kinds::text::TextValue;
-use kinds::whole::Whole;
-use kinds::whole::WholePrinted;
-use kinds::whole::WholeValue;
 use std::alloc::AllocError;
 use std::alloc::Global;
 use stores::TableStore;
 use stores::TableStoreStore;
+use text::Text;
+use text::TextPrinted;
+use text::TextValue;
+use whole::Whole;
+use whole::WholePrinted;
+use whole::WholeValue;
 
 const BREAK: u8 = 10;
 
@@ -69,7 +69,11 @@ fn cut_line(bytes: &[u8]) -> (&[u8], &[u8])
 }
 
 /// Gives a cell the value that is written so: 3 for a locked cell, then the refusal of bytes that are no value.
-pub fn edit_written<P: Printed, S: Store<P>>(store: &mut S, cell: Cell, bytes: &[u8]) -> Result<(), Refusal>
+pub fn edit_written<P: Printed, S: Store<P>>(
+    store: &mut S,
+    cell: Cell,
+    bytes: &[u8],
+) -> Result<(), Refusal>
     ensures edited { λ r. ⌜ Edited (P·Printed .written) (P·Printed .unread) (S·Store .locked (now (store .entry))) (λ k. P·Value .canon (S·Store .shows (now (store .entry)) k)) (numberOf cell) (now (bytes .entry)) (told r) (λ k. P·Value .canon (S·Store .shows (now (store .exit)) k)) ⌝ }
     ensures locks { λ _. ⌜ ((k : ℕ) → S·Store .locked (now (store .exit)) k ≡ S·Store .locked (now (store .entry)) k) ⌝ }
 {
@@ -81,7 +85,11 @@ pub fn edit_written<P: Printed, S: Store<P>>(store: &mut S, cell: Cell, bytes: &
 }
 
 // Answers a line that was read, in the front of the buffer.
-fn serve<P: Printed, S: Store<P>>(store: &mut S, found: Line<'_>, buffer: &mut [u8]) -> Result<usize, Refusal>
+fn serve<P: Printed, S: Store<P>>(
+    store: &mut S,
+    found: Line<'_>,
+    buffer: &mut [u8],
+) -> Result<usize, Refusal>
     ensures answered { λ r. ⌜ ((line : List ℕ) → ReadAs line (asked (found .entry)) → Wrote (P·Printed .written) (P·Printed .unread) (S·Store .locked (now (store .entry))) (λ k. P·Value .canon (S·Store .shows (now (store .entry)) k)) line (now (buffer .entry)) (told r) (now (buffer .exit)) (λ k. P·Value .canon (S·Store .shows (now (store .exit)) k))) ⌝ }
     ensures locks { λ _. ⌜ ((k : ℕ) → S·Store .locked (now (store .exit)) k ≡ S·Store .locked (now (store .entry)) k) ⌝ }
 {
@@ -95,7 +103,11 @@ fn serve<P: Printed, S: Store<P>>(store: &mut S, found: Line<'_>, buffer: &mut [
 }
 
 // Answers one line, in the front of the buffer.
-fn answer_line<P: Printed, S: Store<P>>(store: &mut S, line: &[u8], buffer: &mut [u8]) -> Result<usize, Refusal>
+fn answer_line<P: Printed, S: Store<P>>(
+    store: &mut S,
+    line: &[u8],
+    buffer: &mut [u8],
+) -> Result<usize, Refusal>
     ensures answered { λ r. ⌜ Wrote (P·Printed .written) (P·Printed .unread) (S·Store .locked (now (store .entry))) (λ k. P·Value .canon (S·Store .shows (now (store .entry)) k)) (now (line .entry)) (now (buffer .entry)) (told r) (now (buffer .exit)) (λ k. P·Value .canon (S·Store .shows (now (store .exit)) k)) ⌝ }
     ensures locks { λ _. ⌜ ((k : ℕ) → S·Store .locked (now (store .exit)) k ≡ S·Store .locked (now (store .entry)) k) ⌝ }
 {
@@ -106,7 +118,11 @@ fn answer_line<P: Printed, S: Store<P>>(store: &mut S, line: &[u8], buffer: &mut
 }
 
 // Answers the lines one after another, at the end of what is printed.
-fn answer_lines<P: Printed, S: Store<P>>(store: &mut S, lines: &[u8], out: &mut Vec<u8>) -> Result<(), AllocError>
+fn answer_lines<P: Printed, S: Store<P>>(
+    store: &mut S,
+    lines: &[u8],
+    out: &mut Vec<u8>,
+) -> Result<(), AllocError>
     ensures { λ r. ⌜ made r (λ _. (printed : List ℕ) × (vec-items (now (out .exit)) ≡ vec-items (now (out .entry)) ++ printed) × Session (P·Printed .written) (P·Printed .unread) (S·Store .locked (now (store .entry))) (λ k. P·Value .canon (S·Store .shows (now (store .entry)) k)) (now (lines .entry)) printed) ⌝ }
 {
     let mut buffer = [0; ANSWER];
@@ -134,7 +150,11 @@ fn blanks<P: Printed>(heap: Global) -> Result<Vec<P>, AllocError>
 }
 
 // Answers the lines over a table of blanks of one kind.
-fn answer_over_blanks<P: Printed>(heap: Global, lines: &[u8], out: &mut Vec<u8>) -> Result<(), AllocError>
+fn answer_over_blanks<P: Printed>(
+    heap: Global,
+    lines: &[u8],
+    out: &mut Vec<u8>,
+) -> Result<(), AllocError>
     ensures { λ r. ⌜ made r (λ _. (printed : List ℕ) × (vec-items (now (out .exit)) ≡ vec-items (now (out .entry)) ++ printed) × Session (P·Printed .written) (P·Printed .unread) (λ _. false) (λ _. P·Value .blank) (now (lines .entry)) printed) ⌝ }
 {
     let mut values = blanks::<P>(heap)?;

@@ -14,7 +14,11 @@ fn is_right(rt: &LibcRuntime, name: &str) -> io::Result<bool> {
 fn main(rt: LibcRuntime) -> io::Result<()> {
     let names = fs::read_to_string(&rt, "names")?;
     for name in names.lines() {
-        let verdict = if is_right(&rt, name)? { "as wanted" } else { "OTHERWISE" };
+        let verdict = if is_right(&rt, name)? {
+            "as wanted"
+        } else {
+            "OTHERWISE"
+        };
         println!(rt, "{name}: {verdict}")?;
     }
     Ok(())

@@ -7,10 +7,11 @@ use Rattle.session.proofs.answer_line.Needs as need
 
 pub returns-in-Err : need.returns-in-Err
 returns-in-Err g c =
-  let w = c .write-refusal .ensures in
-  record {
-    answered = record { out = refusalLine (said (c .in-Err .refusal)); answered = refused (said (c .in-Err .refusal)) (c .in-Err .ensures tt); short = w .short; answer-is = w .answer; left-is = w .left };
-    locks = λ k. refl }
+    let w = c .write-refusal .ensures in
+    record {
+      answered = record { out = refusalLine (said (c .in-Err .refusal)); answered = refused (said (c .in-Err .refusal)) (c .in-Err .ensures tt); short = w .short; answer-is = w .answer; left-is = w .left };
+      locks = λ k. refl;
+    }
 
 pub returns-in-Ok : need.returns-in-Ok
 returns-in-Ok g c = record { answered = c .serve .ensures .answered (c .args .line .now) (c .in-Ok .ensures tt); locks = c .serve .ensures .locks }

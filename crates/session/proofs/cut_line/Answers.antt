@@ -11,16 +11,18 @@ use Rattle.session.proofs.cut_line.Needs as need
 
 pub returns-then-place-end : need.returns-then-place-end
 returns-then-place-end c =
-  let r = take-rest (c .args .bytes .now) (c .break-at-place .result + 1) in
-  let n = ap length r in let d = length-drop (c .break-at-place .result + 1) (c .args .bytes .now) in
-  record {
-    cut = rw (sub-zero, r) (cut-ended (c .args .bytes .now) (c .break-at-place .result) (c .break-at-place .ensures) (c .if-place-end .taken));
-    less = omega (arith, c .if-place-end .taken) }
+    let r = take-rest (c .args .bytes .now) (c .break-at-place .result + 1) in
+    let n = ap length r in let d = length-drop (c .break-at-place .result + 1) (c .args .bytes .now) in
+    record {
+      cut = rw (sub-zero, r) (cut-ended (c .args .bytes .now) (c .break-at-place .result) (c .break-at-place .ensures) (c .if-place-end .taken));
+      less = omega (arith, c .if-place-end .taken);
+    }
 
 pub returns-else-place-end : need.returns-else-place-end
 returns-else-place-end c =
-  let r = take-rest (c .args .bytes .now) (length (c .args .bytes .now)) ∙ drop-all (length (c .args .bytes .now)) (c .args .bytes .now) (omega arith) in
-  let n = ap length r in
-  record {
-    cut = rw r (cut-last (c .args .bytes .now) (c .break-at-place .result) (c .break-at-place .ensures) (c .if-place-end .left) (c .pre));
-    less = omega (arith, c .pre) }
+    let r = take-rest (c .args .bytes .now) (length (c .args .bytes .now)) ∙ drop-all (length (c .args .bytes .now)) (c .args .bytes .now) (omega arith) in
+    let n = ap length r in
+    record {
+      cut = rw r (cut-last (c .args .bytes .now) (c .break-at-place .result) (c .break-at-place .ensures) (c .if-place-end .left) (c .pre));
+      less = omega (arith, c .pre);
+    }

@@ -11,7 +11,7 @@ use Rattle.session.proofs.print_refusal.Needs as need
 
 pub returns : need.returns
 returns c =
-  let w = c .in-Ok .ensures tt in
-  let f = fits (refusalLine (said (c .args .refusal))) (replicate 1100 0) (c .write-refusal .last .buffer) (c .in-Ok .len) (omega (arith, w .short)) (w .answer) (w .left) in
-  appended (c .extend-from-slice .result) _ _ _ _ (c .extend-from-slice .ensures .items)
+    let w = c .in-Ok .ensures tt in
+    let f = fits (refusalLine (said (c .args .refusal))) (replicate 1100 0) (c .write-refusal .last .buffer) (c .in-Ok .len) (omega (arith, w .short)) (w .answer) (w .left) in
+    appended (c .extend-from-slice .result) _ _ _ _ (c .extend-from-slice .ensures .items)
     (ap (λ n. vec-items (c .args .out .now) ++ take n (c .write-refusal .last .buffer)) (sub-zero (c .in-Ok .len)) ∙ ap (λ x. vec-items (c .args .out .now) ++ x) f)

@@ -17,7 +17,8 @@ pub returns : need.returns
 returns c = record {
   lent = refl;
   put = λ ws orig w.
-    let l : c .args .self .now .len + length (c .args .more .now) ≤ length (c .args .self .now .bytes .now) = omega (arith, c .if-more-room .left, c .if-start-room .left) in
-    let k : length (c .args .more .now) ≡ c .args .self .now .len + length (c .args .more .now) - c .args .self .now .len = omega arith in
-    wrote-more (c .args .more .now) _ _ w l refl
-      (putMid-paste (c .args .self .now .len) _ (c .args .self .now .bytes .now) (c .copy-from-slice .last .self) (c .args .more .now) (length (c .args .more .now)) (c .copy-from-slice .ensures .after) k refl) }
+      let l : c .args .self .now .len + length (c .args .more .now) ≤ length (c .args .self .now .bytes .now) = omega (arith, c .if-more-room .left, c .if-start-room .left) in
+      let k : length (c .args .more .now) ≡ c .args .self .now .len + length (c .args .more .now) - c .args .self .now .len = omega arith in
+      wrote-more (c .args .more .now) _ _ w l refl
+      (putMid-paste (c .args .self .now .len) _ (c .args .self .now .bytes .now) (c .copy-from-slice .last .self) (c .args .more .now) (length (c .args .more .now)) (c .copy-from-slice .ensures .after) k refl);
+}

@@ -1,5 +1,0 @@
-pub mod Every
-pub mod Numbers
-pub mod Packing
-pub mod Words
-pub mod Zeros
