@@ -1,4 +1,5 @@
 // The table store: a value for each cell, in memory that its caller lends.
+// The shield, which locks some cells of any store, is in a module of its own.
 ghost use mathlib.Core.Path.{_≡_};
 ghost use mathlib.Core.Bool.{Bool, true, false, cond};
 ghost use Prim.Native.Nat.{ℕ, _<_, _≤_};
@@ -7,11 +8,15 @@ ghost use denote.Ref.{now, name};
 ghost use Rattle.interfaces.specs.Cells.{cellCount};
 ghost use Rattle.interfaces.specs.Refusals.{told};
 ghost use Rattle.stores.specs.Tables.{checked};
+
+pub mod shield;
+
 use interfaces::cell::CELLS;
 use interfaces::cell::Cell;
 use interfaces::refusal::Refusal;
 use interfaces::store::Store;
 use interfaces::value::Value;
+pub use shield::Shield;
 
 /// A store of which no cell is locked. What passed its check carries the proof of its length in its type.
 #[derive(Drop)]

@@ -1,0 +1,4 @@
+pub mod Blocks
+pub mod Rings
+pub mod Kept
+pub mod Limits
