@@ -1,0 +1,4 @@
+pub mod Reach
+pub mod Falling
+pub mod Left
+pub mod Answering

@@ -1,0 +1,4 @@
+pub mod Bytes
+pub mod Runs
+pub mod Sound
+pub mod Places

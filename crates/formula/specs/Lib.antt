@@ -1,0 +1,6 @@
+pub mod Bytes
+pub mod Grammar
+pub mod Meaning
+pub mod Reader
+pub mod Own
+pub mod Figures

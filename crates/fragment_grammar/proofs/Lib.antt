@@ -1,0 +1,5 @@
+pub mod Reading
+pub mod NameReading
+pub mod ItemReading
+pub mod RowReading
+pub mod Standing

@@ -1,0 +1,1 @@
+// The theory of a query in progress. Definitions and lemmas alone.

@@ -1,0 +1,1 @@
+// What a workbook shows after a past. Definitions alone.
