@@ -1,3 +1,5 @@
 // Answer lines, written into lent bytes.
+#![tactic(auto)]
+
 pub mod answers;
 pub mod line;

@@ -1,4 +1,6 @@
 // Memory for the definitions of a language: one text of at most 48 bytes for each cell, in bytes that a caller lends.
+#![tactic(auto)]
+
 ghost use Rattle.std.specs.Prelude.{◌≡◌, ℕ, ◌*◌, ◌<◌, ◌≤◌, Bool, cond, List, [], length, slice_index};
 ghost use Rattle.std.proofs.Math.Seq.{paste};
 ghost use Rattle.interfaces.specs.Cells.{cell_count, text_limit, number_of, but};

@@ -1,4 +1,6 @@
 // The workbook: its making, edits, definitions and clearings, over any kind of value, store, language and rebuilder.
+#![tactic(auto)]
+
 ghost use Rattle.std.specs.Prelude.{Ok};
 ghost use Rattle.interfaces.specs.Cells.{number_of};
 ghost use Rattle.interfaces.specs.Refusals.{told};

@@ -1,4 +1,6 @@
 // The formulas over whole numbers: their grammar, what they mean, and the reader that tells what a text stands for.
+#![tactic(auto)]
+
 ghost use Rattle.formula.specs.Figures.{SheetFigures};
 ghost use Rattle.formula.specs.Grammar.{OneReading};
 ghost use Rattle.formula.specs.Reader.{StandsRight};

@@ -1,4 +1,6 @@
 // The fragment language: parameter lines put together from plain bytes and the texts of cells.
+#![tactic(auto)]
+
 mod item;
 pub mod language;
 mod run;

@@ -1,4 +1,6 @@
 // The texts of the fragment language and what they mean: its grammar, and theorems that the contracts below state.
+#![tactic(auto)]
+
 ghost use Rattle.fragment_grammar.specs.Figures.{Twice, Plain33};
 ghost use Rattle.fragment_grammar.specs.Stands.{OneReading, StandsRight};
 

@@ -1,5 +1,7 @@
 // The interfaces that the engine and its parts meet at: cells, refusals, the answers of a language and a
 // rebuilder, and the traits of values, stores, languages and rebuilders with their meanings.
+#![tactic(auto)]
+
 pub mod cell;
 pub mod language;
 pub mod rebuilder;

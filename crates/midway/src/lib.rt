@@ -1,1 +1,2 @@
 // The theory of a query in progress. Definitions and lemmas alone.
+#![tactic(auto)]

@@ -1,4 +1,6 @@
 // The names of cells, read and written.
+#![tactic(auto)]
+
 ghost use Rattle.std.specs.Prelude.{◌≡◌, ℕ, ◌+◌, ◌<◌, ◌≤◌, length, MatchOption};
 ghost use Rattle.interfaces.specs.Cells.{cell_count, number_of};
 ghost use Rattle.interfaces.specs.Printing.{written_bytes};

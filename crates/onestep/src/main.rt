@@ -2,6 +2,8 @@
 // behind a byte 9 each, the answers so far. What it prints is `ask CELL`, `value V`, `fault N MARK`, `no 5` or
 // `no 6 PLACE`, and `no 7` or `no 8` for an answer that is no value. The input is read from the files that are named
 // as arguments, one after another, or else from standard input.
+#![tactic(auto)]
+
 ghost use Rattle.std.specs.Prelude.{◌≤◌, length};
 
 use fragment::Fragment;

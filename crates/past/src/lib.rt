@@ -1,5 +1,7 @@
 // The theory of pasts: what each call since the making came to, and what that leaves. Each function carries a
 // theorem as its contract, and returns 0.
+#![tactic(auto)]
+
 ghost use Rattle.past.specs.Theorems.{SomeOutcome, OneOutcome, AlikeOnEveryPath, AlikeOnTheWay, GoesOn, GoesOnOneWay, PlacingAgrees, OneCause, DoubtIsDecidable, UndoubtedIsUpToDate, FittingIsRight, ReportIsShort, ChainLeadsToFault, LayerByNumber};
 ghost use Rattle.past.specs.Sample.{SampleIsLawful, FinerSampleIsLawful, RefusalSampleIsLawful};
 

@@ -1,5 +1,7 @@
 // Rebuilders: what is remembered of the runs of every cell, over memory that the caller lends.
 // Three have names; traces of any other depth are to be had in the same way.
+#![tactic(auto)]
+
 ghost use Rattle.std.specs.Prelude.{◌≡◌, [], ◌∷◌};
 
 pub mod dirty;

@@ -1,4 +1,6 @@
 // Examples for the rebuilders and the shield, as tables. The contracts are proved elsewhere; here they are run.
+#![tactic(auto)]
+
 #[cfg(test)]
 mod tests {
     use interfaces::cell::{Cell, TRACE};

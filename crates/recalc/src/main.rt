@@ -1,4 +1,6 @@
 // Reads a script from standard input and prints its answers. All of the work is in `session`.
+#![tactic(auto)]
+
 use script::lines::SCRIPT;
 use session::run;
 use std::io;

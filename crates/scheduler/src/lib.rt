@@ -1,4 +1,6 @@
 // The scheduler: a query brings its cell up to date, and whatever that needs.
+#![tactic(auto)]
+
 ghost use Rattle.std.specs.Prelude.{◌≡◌, ℕ, ◌+◌, ◌-◌, ◌*◌, ◌<◌, ◌≤◌, true, false, T, map, length, take, IfErr};
 ghost use Rattle.interfaces.specs.Cells.{cell_count, ask_limit, number_of};
 ghost use Rattle.interfaces.specs.Traces.{pairs_of};

@@ -1,3 +1,5 @@
 // Scripts: their lines, by their forms.
+#![tactic(auto)]
+
 pub mod lines;
 pub mod reading;

@@ -1,4 +1,6 @@
 // Runs a script: its lines are answered one after another.
+#![tactic(auto)]
+
 ghost use Rattle.std.specs.Prelude.{◌≡◌, ℕ, ◌<◌, ◌≤◌, false, List, [], ◌∷◌, ◌++◌, length, replicate, IfOk, OnOk};
 ghost use Rattle.interfaces.specs.Cells.{cell_count, number_of};
 ghost use Rattle.interfaces.specs.Refusals.{said, told};

@@ -1,5 +1,7 @@
 // The table store: a value for each cell, in memory that its caller lends.
 // The shield, which locks some cells of any store, is in a module of its own.
+#![tactic(auto)]
+
 ghost use Rattle.std.specs.Prelude.{◌≡◌, ℕ, ◌<◌, ◌≤◌, Bool, true, false, cond, length, slice_index_or};
 ghost use Rattle.interfaces.specs.Cells.{cell_count};
 ghost use Rattle.interfaces.specs.Refusals.{told};

@@ -1,5 +1,7 @@
 // The table of cell records: whether a cell is defined, its cause if it is in doubt, and the cells that it asked for.
 // The structs alone: what is said of them in specs/ cannot be cited where they are declared.
+#![tactic(auto)]
+
 ghost use Rattle.std.specs.Prelude.{◌≡◌, length};
 ghost use Rattle.interfaces.specs.Cells.{cell_count};
 

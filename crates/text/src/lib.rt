@@ -1,5 +1,7 @@
 // Texts of at most 32 bytes, each from 32 to 126, packed into four words. A record that breaks its form
 // means the blank, the empty text. Nothing is assumed of a record or of bytes that come in.
+#![tactic(auto)]
+
 ghost use Rattle.std.specs.Prelude.{◌≡◌, ◌+◌, ◌≤◌, true, [], ◌∷◌, ◌++◌, length, take, drop};
 ghost use Rattle.interfaces.specs.Printing.{padding};
 ghost use Rattle.text.specs.Text.{printable_byte, printable_bytes, only_zeros, word_of, text_bytes, sound_text, text_blank, text_canon, text_means, text_length, text_empty, equal_text, text_alike, text_packed, text_extended, text_appended, text_pushed, Extends, TextForm};

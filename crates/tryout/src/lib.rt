@@ -1,5 +1,7 @@
 // The smallest parts that keep the meanings of the interfaces, and code that is proved once over any parts.
 // They show that the interfaces can be met and used; the product's own parts are elsewhere.
+#![tactic(auto)]
+
 ghost use Rattle.std.specs.Prelude.{◌≡◌, ℕ, ◌<◌, ◌≤◌, Bool, true, false, cond, List, [], ◌∷◌, map, length, None as Nothing, slice_index_or};
 ghost use Rattle.std.proofs.Common.{zero-le};
 ghost use Rattle.interfaces.specs.Cells.{number_of};

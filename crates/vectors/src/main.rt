@@ -1,4 +1,6 @@
 // Runs the scripts in `data/` and compares what they print with what they should: NAME.in and NAME.out.
+#![tactic(auto)]
+
 use session::run;
 use std::{fs, io};
 

@@ -1,1 +1,2 @@
 // What a workbook shows after a past. Definitions alone.
+#![tactic(auto)]

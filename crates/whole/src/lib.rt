@@ -1,5 +1,7 @@
 // Whole numbers from -1,000,000,000 to 1,000,000,000. A record that holds a number beyond these limits
 // means the blank, 0. Nothing is assumed of a record or of bytes that come in.
+#![tactic(auto)]
+
 ghost use Rattle.std.specs.Prelude.{◌≡◌, ◌+◌, ◌<◌, ◌≤◌, ◌∷◌, ◌++◌, length, drop, decimal, MatchOption, unsigned_abs};
 ghost use Rattle.std.specs.Fmt.{signed_decimal};
 ghost use Rattle.interfaces.specs.Printing.{written_bytes};
