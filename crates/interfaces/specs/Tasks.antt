@@ -1,5 +1,5 @@
 -- What a language means: definitions, their steps, and what a text stands for.
-use Rattle.std.specs.Prelude.{◌≡◌, ℕ, ◌≤◌, Bool, true, false, cond, ◌≢◌, List, [], ◌∷◌, length, Ok, Err, Result, nat_le, nat_lt}
+use Rattle.std.specs.Prelude.{◌≡◌, ℕ, cond, ◌≢◌, List, length, Ok, Err, Result, nat_le, nat_lt}
 use Rattle.std.proofs.Math.Option.{Option, none, some}
 use Rattle.interfaces.specs.declared.step.Step.{Step}
 use Rattle.interfaces.specs.declared.step.Step.TheVariants.{Ask, Give, Fault}

@@ -1,12 +1,12 @@
 -- What a rebuilder means: traces, and the plan that they give.
-use Rattle.std.specs.Prelude.{◌≡◌, ℕ, ◌≤◌, Bool, true, false, cond, List, [], ◌∷◌, length, take, Ok, Err, Result, ◌==◌, nat_le}
+use Rattle.std.specs.Prelude.{ℕ, ◌≤◌, Bool, cond, List, [], ◌∷◌, length, take, Ok, Err, Result, ◌==◌, nat_le}
 use Rattle.std.proofs.Math.Option.{Option, none, some}
 use Rattle.std.specs.List.{AllByRecursion as All}
 use Rattle.interfaces.specs.declared.cell.Cell.{Cell}
 use Rattle.interfaces.specs.declared.step.Plan.{Plan}
 use Rattle.interfaces.specs.declared.step.Plan.TheVariants.{Run, Keep, Next}
 use Rattle.interfaces.specs.Cells.{ask_limit, number_of, but}
-use Rattle.interfaces.specs.Refusals.{Said, no, no_at}
+use Rattle.interfaces.specs.Refusals.{Said, no}
 
 -- a cell that was asked for, and the value that was answered
 pub record Pair (M : Type 0) : Type 0 where

@@ -12,13 +12,13 @@ returns-then-front-gt-WRITTEN c =
       | then-front-gt-WRITTEN-via-else-front-gt-WRITTEN+then-rest-front w ↦ omega arith
     ])
 
-pub invariant-of-result : goal.invariant-of-result
-invariant-of-result c =
+pub invariant_of-result : goal.invariant_of-result
+invariant_of-result c =
     let front = c.args.front.now in
     let rest = c.args.rest.now in
     let e = put_more [] front _ c.put.new.bytes 0 refl refl c.put.ensures in
     let f = put_more front rest c.put.new.bytes c.put-2.new.bytes _ e refl c.put-2.ensures in
-    (omega arith, (ap (drop _) f ∙ drop_padding (front ++ rest) _ (length-append front rest), tt))
+    record { fits = omega arith; padded = ap (drop _) f ∙ drop_padding (front ++ rest) _ (length-append front rest) }
 
 pub returns : goal.returns
 returns c =
