@@ -2,35 +2,35 @@ use Rattle.std.proofs.Common.{◌≡◌, ℕ, ◌+◌, ◌-◌, ◌*◌, ◌/◌
 use Rattle.names.specs.Names.{row_count, ByteAt, NameAt}
 use Rattle.names.proofs.Standing.{stands, short_at, long_at, made_number}
 use Rattle.names.proofs.name_at.Goals as goal
-use Rattle.names.proofs.name_at.Goals.{in-Some+else-row-low-le-ROWS, in-default}
+use Rattle.names.proofs.name_at.Goals.{in-Some+else-row-low-le-ROWS, in_default}
 
-pub returns-in-err-column : goal.returns-in-err-column
-returns-in-err-column c =
-    rw c.from-residual.ensures (λ m rest w e. c.in-err-column.ensures (m / row_count) (omega arith) (stands _ _ m rest w e).column)
+pub returns-in_err-column : goal.returns-in_err-column
+returns-in_err-column c =
+    rw c.from_residual.ensures (λ m rest w e. c.in_err-column.ensures (m / row_count) (omega arith) (stands _ _ m rest w e).column)
 
-pub returns-in-err-row : goal.returns-in-err-row
-returns-in-err-row c =
-    rw c.from-residual-in-err-row.ensures (λ m rest w e. let s = (stands c.args.text.now c.args.at m rest w e).digit in c.in-err-row.ensures s.0 s.2 s.3)
+pub returns-in_err-row : goal.returns-in_err-row
+returns-in_err-row c =
+    rw c.from_residual-in_err-row.ensures (λ m rest w e. let s = (stands c.args.text.now c.args.at m rest w e).digit in c.in_err-row.ensures s.0 s.2 s.3)
 
 pub returns-then-row-eq0 : goal.returns-then-row-eq0
 returns-then-row-eq0 c m rest w e =
     let s = (stands c.args.text.now c.args.at m rest w e).digit in
-    let z = c.if-row-eq0.true in let b = c.in-ok-row.ensures.1.1 in let s1 = s.1 in let s3 = s.3.1 in omega arith
+    let z = c.if-row-eq0.true in let b = c.in_ok-row.ensures.1.1 in let s1 = s.1 in let s3 = s.3.1 in omega arith
 
 pub returns-then-row-low-le-ROWS : goal.returns-then-row-low-le-ROWS
 returns-then-row-low-le-ROWS c =
-    let k = c.in-ok-column.ensures in let r = c.in-ok-row.ensures in let l = c.in-Some.ensures in
-    let p : 0 < c.in-ok-row.row = omega (arith, c.if-row-eq0.false) in
-    rw (made_number c.in-ok-cell.cell.0 _ c.in-ok-cell.ensures)
-    (long_at c.args.text.now c.args.at c.in-ok-column.column c.in-ok-row.row c.in-Some.low k.0 p l.0 c.if-row-low-le-ROWS.true k.1 r.1 l.1)
+    let k = c.in_ok-column.ensures in let r = c.in_ok-row.ensures in let l = c.in-Some.ensures in
+    let p : 0 < c.in_ok-row.row = omega (arith, c.if-row-eq0.false) in
+    rw (made_number c.in_ok-cell.cell.0 _ c.in_ok-cell.ensures)
+    (long_at c.args.text.now c.args.at c.in_ok-column.column c.in_ok-row.row c.in-Some.low k.0 p l.0 c.if-row-low-le-ROWS.true k.1 r.1 l.1)
 
 pub returns : goal.returns
 returns c =
-    let k = c.in-ok-column.ensures in let r = c.in-ok-row.ensures in
-    let p : 0 < c.in-ok-row.row = omega (arith, c.if-row-eq0.false) in
-    rw (made_number c.in-ok-cell-2.cell.0 _ c.in-ok-cell-2.ensures)
-    (short_at c.args.text.now c.args.at c.in-ok-column.column c.in-ok-row.row k.0 p r.0 k.1 r.1
-    (λ low l b. elim c.match-digit-at.branch [
+    let k = c.in_ok-column.ensures in let r = c.in_ok-row.ensures in
+    let p : 0 < c.in_ok-row.row = omega (arith, c.if-row-eq0.false) in
+    rw (made_number c.in_ok-cell-2.cell.0 _ c.in_ok-cell-2.ensures)
+    (short_at c.args.text.now c.args.at c.in_ok-column.column c.in_ok-row.row k.0 p r.0 k.1 r.1
+    (λ low l b. elim c.match-digit_at.branch [
       | in-Some+else-row-low-le-ROWS w ↦ (let x = w.in-Some.ensures.1.1 in let y = b.1 in omega (arith, w.if-row-low-le-ROWS.false))
-      | in-default w ↦ absurd (w.in-default.ensures low l b)
+      | in_default w ↦ absurd (w.in_default.ensures low l b)
     ]))

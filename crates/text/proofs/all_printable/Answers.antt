@@ -5,8 +5,8 @@ use Rattle.text.specs.Text.{printable_byte}
 use Rattle.text.specs.Every.{every_stop, every_more, every_end}
 use Rattle.text.proofs.all_printable.Goals as goal
 
-pub returns-then-not-is-printable : goal.returns-then-not-is-printable
-returns-then-not-is-printable c = every_stop printable_byte c.args.bytes.now c.loop-byte.byte-index c.loop-byte-test.true (grind (arith, nat_tests)) c.loop-byte.invariant
+pub returns-then-not-is_printable : goal.returns-then-not-is_printable
+returns-then-not-is_printable c = every_stop printable_byte c.args.bytes.now c.loop-byte.byte-index c.loop-byte-test.true (grind (arith, nat_tests)) c.loop-byte.invariant
 
 pub loop-byte-preserved : goal.loop-byte-preserved
 loop-byte-preserved c = every_more printable_byte c.args.bytes.now c.loop-byte.byte-index c.loop-byte-test.true (grind (arith, nat_tests)) c.loop-byte.invariant

@@ -9,4 +9,4 @@ returns c =
     let n = length c.args.piece.now in
     let e : at + n - at ≡ n = omega arith in
     let d = drop-drop n at c.args.bytes.now in
-    simp (c.copy-from-slice.ensures.after, e, d)
+    simp (c.copy_from_slice.ensures.after, e, d)

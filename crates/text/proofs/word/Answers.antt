@@ -7,8 +7,8 @@ use Rattle.text.proofs.word.Goals as goal
 pub returns : goal.returns
 returns c =
     let at = c.args.at in
-    let w = c.copy-from-slice.new.self in
+    let w = c.copy_from_slice.new.self in
     let n : at + 8 - at ≡ 8 = omega arith in
     let e : w ≡ take 8 (drop at c.args.bytes.now) =
-    c.copy-from-slice.ensures.after ∙ ap (λ k. take k (drop at c.args.bytes.now)) n in
-    c.from-le-bytes.ensures ∙ (word_of_eight w c.copy-from-slice.ensures.len ∙ ap word_of e)
+    c.copy_from_slice.ensures.after ∙ ap (λ k. take k (drop at c.args.bytes.now)) n in
+    c.from_le_bytes.ensures ∙ (word_of_eight w c.copy_from_slice.ensures.len ∙ ap word_of e)

@@ -12,7 +12,7 @@ never s e = let z : ◌≡◌ {A = ℕ} 0 1 = cc in omega arith
 
 pub returns-in-err-write : goal.returns-in-err-write
 returns-in-err-write g c =
-    let p = err_from_is_err_and c.from-residual.result c.from-residual.ensures.1 in
+    let p = err_from_is_err_and c.from_residual.result c.from_residual.ensures.1 in
     let w = c.in-err-write.ensures in
     let l = refused_locked _ _ w.answer in
     rw p.1 (record {

@@ -20,15 +20,15 @@ front from d ds l h =
 pub loop-rest-init : goal.loop-rest-init
 loop-rest-init c = (sym (append-nil _), refl, omega arith, omega arith)
 
-pub overflow-sub-from : goal.overflow-sub-from
-overflow-sub-from c =
+pub overflow_sub-from : goal.overflow_sub-from
+overflow_sub-from c =
     let i = c.loop-rest.invariant in
     room c.args.n c.loop-rest.rest c.loop-rest.from c.loop-rest.digits (omega arith) (omega arith) i.0 i.1 i.2
 
 pub loop-rest-preserved : goal.loop-rest-preserved
 loop-rest-preserved c =
     let i = c.loop-rest.invariant in
-    let h = front c.loop-rest.from (48 + c.loop-rest.rest % 10) c.loop-rest.digits (omega arith) (overflow-sub-from c) in
+    let h = front c.loop-rest.from (48 + c.loop-rest.rest % 10) c.loop-rest.digits (omega arith) (overflow_sub-from c) in
     let s = decimal_step c.loop-rest.rest c.loop-rest-test.true (omega arith) in (
       i.0 ∙ (rw (s, h) (append_assoc (decimal (c.loop-rest.rest / 10)) _ _)),
       length-set c.loop-rest.digits _ _ ∙ i.1,
@@ -36,15 +36,15 @@ loop-rest-preserved c =
       omega arith,
     )
 
-pub overflow-sub-from-2 : goal.overflow-sub-from-2
-overflow-sub-from-2 c =
+pub overflow_sub-from-2 : goal.overflow_sub-from-2
+overflow_sub-from-2 c =
     let i = c.loop-rest.invariant in
     room c.args.n c.loop-rest.rest c.loop-rest.from c.loop-rest.digits (omega arith) (omega arith) i.0 i.1 i.2
 
 pub returns : goal.returns
 returns c =
     let i = c.loop-rest.invariant in
-    let h = front c.loop-rest.from (48 + c.loop-rest.rest) c.loop-rest.digits (omega arith) (overflow-sub-from-2 c) in
+    let h = front c.loop-rest.from (48 + c.loop-rest.rest) c.loop-rest.digits (omega arith) (overflow_sub-from-2 c) in
     let s = decimal_digit c.loop-rest.rest (omega arith) in
     record {
       digits = h ∙ sym (i.0 ∙ ap (λ ds. ds ++ drop c.loop-rest.from c.loop-rest.digits) s);

@@ -6,11 +6,11 @@ use Rattle.whole.specs.Numbers.{few, digit_more, too_long, ill_begun, no_digit, 
 use Rattle.whole.proofs.numeral.Goals as goal
 use Rattle.whole.proofs.numeral.Goals.{then-digits-gt-MOST-DIGITS-via-then-digits-gt-MOST-DIGITS, then-digits-gt-MOST-DIGITS-via-else-digits-gt-MOST-DIGITS+then-not-well-begun, then-digit-lt-NOUGHT-via-then-digit-lt-NOUGHT, then-digit-lt-NOUGHT-via-else-digit-lt-NOUGHT+then-digit-gt-NINE}
 
-pub returns-then-digits-gt-MOST-DIGITS : goal.returns-then-digits-gt-MOST-DIGITS
-returns-then-digits-gt-MOST-DIGITS c =
-    elim c.then-digits-gt-MOST-DIGITS.branch [
+pub returns-then-digits-gt-MOST_DIGITS : goal.returns-then-digits-gt-MOST_DIGITS
+returns-then-digits-gt-MOST_DIGITS c =
+    elim c.then-digits-gt-MOST_DIGITS.branch [
       | then-digits-gt-MOST-DIGITS-via-then-digits-gt-MOST-DIGITS w ↦ too_long c.args.digits.now (omega arith)
-      | then-digits-gt-MOST-DIGITS-via-else-digits-gt-MOST-DIGITS+then-not-well-begun w ↦ ill_begun c.args.digits.now (sym w.well-begun.ensures ∙ w.if-not-well-begun.true)
+      | then-digits-gt-MOST-DIGITS-via-else-digits-gt-MOST-DIGITS+then-not-well-begun w ↦ ill_begun c.args.digits.now (sym w.well_begun.ensures ∙ w.if-not-well_begun.true)
     ]
 
 pub returns-then-digit-lt-NOUGHT : goal.returns-then-digit-lt-NOUGHT
@@ -21,14 +21,14 @@ returns-then-digit-lt-NOUGHT c =
       | then-digit-lt-NOUGHT-via-else-digit-lt-NOUGHT+then-digit-gt-NINE w ↦ omega arith
     ])
 
-pub overflow-mul-n : goal.overflow-mul-n
-overflow-mul-n c =
+pub overflow_mul-n : goal.overflow_mul-n
+overflow_mul-n c =
     let i = c.loop-digit.invariant in
     let h = few c.args.digits.now c.loop-digit.digit-index c.loop-digit.n (omega arith) i.0 i.1 in
     omega arith
 
-pub overflow-add-n : goal.overflow-add-n
-overflow-add-n c =
+pub overflow_add-n : goal.overflow_add-n
+overflow_add-n c =
     let i = c.loop-digit.invariant in
     let h = few c.args.digits.now c.loop-digit.digit-index c.loop-digit.n (omega arith) i.0 i.1 in
     omega arith
@@ -45,7 +45,7 @@ returns-then-n c =
     let e = take_all c.loop-digit.digit-index c.args.digits.now c.loop-digit-test.false in
     let v : c.loop-digit.n ≡ digits_value 10 c.args.digits.now = i.1 ∙ ap (digits_value 10) e in
     let d : AllDigits 10 c.args.digits.now = rw e at i.0 in
-    (omega arith, read_numeral c.args.digits.now c.loop-digit.n v (omega arith) d (sym c.if-not-well-begun.ensures))
+    (omega arith, read_numeral c.args.digits.now c.loop-digit.n v (omega arith) d (sym c.if-not-well_begun.ensures))
 
 pub returns-else-n : goal.returns-else-n
 returns-else-n c =

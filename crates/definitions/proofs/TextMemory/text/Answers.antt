@@ -8,4 +8,4 @@ returns c =
     let v = c.number-start.ensures.value in
     let n : c.number-start.result * 48 + 48 - c.number-start.result * 48 ≡ 48 = omega arith in
     let e : take (c.number-start.result * 48 + 48 - c.number-start.result * 48) (drop (c.number-start.result * 48) c.args.self.now.bytes.now) ≡ bytes_at c.args.self.now.bytes.now (number_of c.args.cell) = cc in
-    c.before-zero.ensures ∙ ap up_to_zero e
+    c.before_zero.ensures ∙ ap up_to_zero e

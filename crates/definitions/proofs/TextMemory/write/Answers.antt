@@ -14,6 +14,6 @@ loop-i-preserved c =
     let p = padded_at c.args.text.now c.loop-i.i c.requires.1 (omega arith) in
     let n = padded_length c.args.text.now c.requires.1 in
     let m = paste_more c.args.self.now.bytes.now (c.number-start.result * 48) (padded c.args.text.now) c.loop-i.i 0 (omega arith) (omega arith) in
-    let v = c.byte-or-zero.ensures in
+    let v = c.byte_or_zero.ensures in
     let e = c.loop-i.invariant.0 in
     (cc, rw length-set c.loop-i.invariant.1, c.loop-i.invariant.2)

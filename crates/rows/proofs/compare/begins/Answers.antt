@@ -14,7 +14,7 @@ loop-i-preserved g c =
     ∙ agrees g.row.V-Value.canon g.row.V-Value.alike c.args.asked.now c.args.answers.now c.args.cells.now c.args.values.now c.loop-i.i (record { 0 = 0 }) g.row.V-Value.blank
     (omega arith) (omega arith) (omega arith) (omega arith) _ _ _ _ c.number.ensures.value c.number-in-loop-i.ensures.value c.at.ensures c.at-in-loop-i.ensures
     (alike_canon g.row.V-Value.canon g.row.V-Value.alike g.met.V.Value.steady g.met.V.Value.alike_sound g.met.V.Value.alike_whole _ _)
-    c.if-number.false (sym c.if-not-is-like.ensures)
+    c.if-number.false (sym c.if-not-is_like.ensures)
 
 pub returns-then-number : goal.returns-then-number
 returns-then-number g c =
@@ -22,13 +22,13 @@ returns-then-number g c =
     ∙ other_cell g.row.V-Value.canon g.row.V-Value.alike c.args.asked.now c.args.answers.now c.args.cells.now c.args.values.now c.loop-i.i (record { 0 = 0 }) g.row.V-Value.blank
     (omega arith) (omega arith) (omega arith) (omega arith) _ _ g.row.V-Value.blank g.row.V-Value.blank c.number.ensures.value c.number-in-loop-i.ensures.value c.if-number.true
 
-pub returns-then-not-is-like : goal.returns-then-not-is-like
-returns-then-not-is-like g c =
+pub returns-then-not-is_like : goal.returns-then-not-is_like
+returns-then-not-is_like g c =
     c.loop-i.invariant
     ∙ other_value g.row.V-Value.canon g.row.V-Value.alike c.args.asked.now c.args.answers.now c.args.cells.now c.args.values.now c.loop-i.i (record { 0 = 0 }) g.row.V-Value.blank
     (omega arith) (omega arith) (omega arith) (omega arith) _ _ _ _ c.number.ensures.value c.number-in-loop-i.ensures.value c.at.ensures c.at-in-loop-i.ensures
     (alike_canon g.row.V-Value.canon g.row.V-Value.alike g.met.V.Value.steady g.met.V.Value.alike_sound g.met.V.Value.alike_whole _ _)
-    (sym c.if-not-is-like.ensures)
+    (sym c.if-not-is_like.ensures)
 
 pub returns : goal.returns
 returns g c =

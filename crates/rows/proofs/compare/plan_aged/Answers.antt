@@ -12,8 +12,8 @@ returns g c =
     let base = c.place-place.result * trace_length + c.number.result * block_length in
     let b : base ≡ block_at c.place-place.result (number_of c.args.cell) = omega arith in
     let s : base + block_length - base ≡ block_length = omega arith in
-    c.plan-by.ensures
+    c.plan_by.ensures
     ∙ ap (λ t. plan g.row.V-Value.alike (t ∷ []) (pairs_of g.row.V-Value.canon c.args.cells.now c.args.values.now))
     (read_aged g.row.V-Value.canon g.row.V-Value.blank g.row.D c.args.row.now c.args.held.now (number_of c.args.cell) c.args.age
     c.place-place.result c.asked-asked.result _ base (base + block_length - base)
-    c.place-place.ensures.place (c.asked-asked.ensures no_asked) c.as-slice.ensures b s)
+    c.place-place.ensures.place (c.asked-asked.ensures no_asked) c.as_slice.ensures b s)

@@ -16,7 +16,7 @@ loop-age-preserved g c =
     c.prefer-best.ensures
     ∙ plan_newer g.row.V-Value.canon g.row.V-Value.alike (trace_aged g.row.V-Value.canon g.row.V-Value.blank g.row.D c.args.row.now c.args.held.now (number_of c.args.cell))
     c.args.row.now.count c.loop-age.age (pairs_of g.row.V-Value.canon c.args.cells.now c.args.values.now) _ _
-    (omega (arith, c.loop-age-test.true)) (omega (arith, c.count-age.ensures)) c.plan-aged.ensures c.loop-age.invariant
+    (omega (arith, c.loop-age-test.true)) (omega (arith, c.count-age.ensures)) c.plan_aged.ensures c.loop-age.invariant
 
 pub returns : goal.returns
 returns g c =

@@ -45,7 +45,7 @@ visit-returns-then-fuel-eq0 t c = visit_empty (asked_in (record_in c.args.self.n
 pub visit-returns : goal.visit-returns
 visit-returns t c =
     let row = c.get-row.result in
-    visit_found_at (asked_in (record_in c.args.self.now)) (number_of c.args.c) c.args.fuel (c.args.fuel - 1) (number_of c.args.x) c.number-place.result (map number_of (take c.within-room-count.result row.asked)) c.args.known.now c.any-found.new.known c.any-found.result
+    visit_found_at (asked_in (record_in c.args.self.now)) (number_of c.args.c) c.args.fuel (c.args.fuel - 1) (number_of c.args.x) c.number-place.result (map number_of (take c.within_room-count.result row.asked)) c.args.known.now c.any-found.new.known c.any-found.result
     c.number-place.ensures.value (omega (arith, c.if-fuel-eq0.false))
-    (ap (map number_of) (cut_same row.count c.within-room-count.result row.asked c.any-found.ensures.room c.within-room-count.ensures.same c.within-room-count.ensures.cut) ∙ ap (λ z. map number_of (take z.count z.asked)) c.get-row.ensures.row)
+    (ap (map number_of) (cut_same row.count c.within_room-count.result row.asked c.any-found.ensures.room c.within_room-count.ensures.same c.within_room-count.ensures.cut) ∙ ap (λ z. map number_of (take z.count z.asked)) c.get-row.ensures.row)
     c.any-found.ensures.visits (search rules)

@@ -3,7 +3,7 @@ use Rattle.table.specs.Records.{record_in}
 use Rattle.table.specs.Walks.{Turns}
 use Rattle.table.proofs.Marking.{begins, one_turn, all_turned, made, not_made}
 use Rattle.table.proofs.Table.mark.Goals as goal
-use Rattle.table.proofs.Table.mark.Goals.{in-Some, in-default}
+use Rattle.table.proofs.Table.mark.Goals.{in-Some, in_default}
 
 pub loop-i-init : goal.loop-i-init
 loop-i-init c = (refl, λ g. begins c.args.touched (record_in c.args.self.now) 256)
@@ -14,11 +14,11 @@ loop-i-preserved c = elim c.match-new.branch [
     search rules,
     λ g. one_turn c.args.touched c.loop-i.i (record_in c.args.self.now) (record_in c.loop-i.self) (record_in c.match-new.self) c.loop-i.known c.match-new.known g (c.loop-i.invariant.1 g)
         (subst (λ t. Turns c.args.touched c.loop-i.i (record_in c.loop-i.self) (record_in t) c.loop-i.known c.match-new.known) (sym w.self-is)
-        (subst (λ k. Turns c.args.touched c.loop-i.i (record_in c.loop-i.self) (record_in w.mark-one.new.self) c.loop-i.known k) (sym w.known-is)
-        (subst (λ x. Turns c.args.touched x (record_in c.loop-i.self) (record_in w.mark-one.new.self) c.loop-i.known w.mark-one.new.known) (made c.new.result w.in-Some.cell c.loop-i.i w.in-Some.is c.new.ensures (omega arith))
-        w.mark-one.ensures))),
+        (subst (λ k. Turns c.args.touched c.loop-i.i (record_in c.loop-i.self) (record_in w.mark_one.new.self) c.loop-i.known k) (sym w.known-is)
+        (subst (λ x. Turns c.args.touched x (record_in c.loop-i.self) (record_in w.mark_one.new.self) c.loop-i.known w.mark_one.new.known) (made c.new.result w.in-Some.cell c.loop-i.i w.in-Some.is c.new.ensures (omega arith))
+        w.mark_one.ensures))),
   )
-  | in-default w ↦ absurd (not_made c.new.result c.loop-i.i c.new.ensures (omega arith) w.in-default.not-Some)
+  | in_default w ↦ absurd (not_made c.new.result c.loop-i.i c.new.ensures (omega arith) w.in_default.not-Some)
 ]
 
 pub returns : goal.returns

@@ -5,6 +5,6 @@ use Rattle.table.specs.Walks.{doubted, hits}
 use Rattle.table.proofs.Table.mark_one.Goals as goal
 
 pub returns : goal.returns
-returns c = hits (ap calm_record (sym c.get-row.ensures.row) ∙ sym c.is-calm.ensures ∙ c.if-not-is-calm.false)
+returns c = hits (ap calm_record (sym c.get-row.ensures.row) ∙ sym c.is_calm.ensures ∙ c.if-not-is_calm.false)
     (λ k. c.change.ensures k ∙ ap (λ r. but (number_of c.args.x) (doubted c.args.c r) (record_in c.args.self.now) k) c.get-row.ensures.row)
     c.if-not-visit.ensures

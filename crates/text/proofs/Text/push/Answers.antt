@@ -5,11 +5,11 @@ use Rattle.text.specs.declared.Text.{Text}
 use Rattle.text.specs.Packing.{extends}
 use Rattle.text.proofs.Text.push.Goals as goal
 
-pub returns-then-is-printable : goal.returns-then-is-printable
-returns-then-is-printable c =
+pub returns-then-is_printable : goal.returns-then-is_printable
+returns-then-is_printable c =
     let t = c.args.self in
     let more = c.args.byte ∷ [] in
-    let h = c.if-is-printable.ensures in
+    let h = c.if-is_printable.ensures in
     let P : Option Text → Type 0 = Extends (text_means t) more in
     record {
       equal = c.extended.ensures ∙ ap (λ b. cond b (text_extended t more) None) h;

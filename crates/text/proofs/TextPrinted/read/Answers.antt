@@ -12,7 +12,7 @@ returns-then-text-gt-LONGEST c = (
   refl,
   elim c.then-text-gt-LONGEST.branch [
     | then-text-gt-LONGEST-via-then-text-gt-LONGEST w ↦ too_long c.args.text.now (omega arith)
-    | then-text-gt-LONGEST-via-else-text-gt-LONGEST+then-not-all-printable w ↦ not_printable c.args.text.now (sym w.all-printable.ensures ∙ w.if-not-all-printable.true)
+    | then-text-gt-LONGEST-via-else-text-gt-LONGEST+then-not-all-printable w ↦ not_printable c.args.text.now (sym w.all_printable.ensures ∙ w.if-not-all_printable.true)
   ],
 )
 
@@ -21,4 +21,4 @@ returns c =
     let bs = c.args.text.now in
     let e : c.packed.result ≡ text_of bs =
     c.packed.ensures ∙ ap (λ cs. text_packed cs (length bs)) (c.padded.ensures ∙ ap padding (append-nil bs)) in
-    ap text_means e ∙ means_of bs c.if-text-gt-LONGEST.false (sym c.if-not-all-printable.ensures)
+    ap text_means e ∙ means_of bs c.if-text-gt-LONGEST.false (sym c.if-not-all_printable.ensures)

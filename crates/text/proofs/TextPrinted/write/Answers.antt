@@ -4,8 +4,8 @@ use Rattle.text.specs.Text.{text_means}
 use Rattle.interfaces.proofs.Zeros.{take_padding, drop_padding}
 use Rattle.text.proofs.TextPrinted.write.Goals as goal
 
-pub invariant-of-result : goal.invariant-of-result
-invariant-of-result c =
+pub invariant_of-result : goal.invariant_of-result
+invariant_of-result c =
     let f = c.form-len.ensures in
     let n = c.form-len.result.1 in
     (omega arith, (ap (drop n) f.bytes ∙ drop_padding (text_means c.args.self.now) n (sym f.count), tt))

@@ -11,12 +11,12 @@ use Rattle.whole.proofs.WholePrinted.write.Goals.{then-value-lt-UNSIGNED, else-v
 pub returns : goal.returns
 returns c =
     let v = c.value-value.result in
-    let r = c.digits-of-from.result in
+    let r = c.digits_of-from.result in
     let fits : SFits w32 v = search rules in
     let e : to_z w32 (of_z w32 v) ≡ v = to_z-of_z w32 v fits in
-    let n : c.unsigned-abs.result ≡ nat_abs v = c.unsigned-abs.ensures.value ∙ ap nat_abs e in
+    let n : c.unsigned_abs.result ≡ nat_abs v = c.unsigned_abs.ensures.value ∙ ap nat_abs e in
     let d : take (10 - r.1) (drop r.1 r.0) ≡ decimal (nat_abs v) =
-    digits_part r.0 r.1 c.digits-of-from.ensures.ten ∙ (c.digits-of-from.ensures.digits ∙ ap decimal n) in
+    digits_part r.0 r.1 c.digits_of-from.ensures.ten ∙ (c.digits_of-from.ensures.digits ∙ ap decimal n) in
     let parts : written_bytes c.formed.result ≡ c.if-value-lt-UNSIGNED.sign.now ++ decimal (nat_abs v) =
     c.formed.ensures ∙ ap (λ ds. c.if-value-lt-UNSIGNED.sign.now ++ ds) d in
     elim c.if-value-lt-UNSIGNED.branch [
