@@ -2,7 +2,7 @@
 use Rattle.std.proofs.Common.{◌≡◌, sym, ap, ◌∙◌, arith}
 use Rattle.std.specs.Str.Parse.{AllDigits, digits_value}
 use Rattle.std.proofs.lemmas.List.{take_all}
-use Rattle.whole.specs.Numbers.{few, digit_more, too_long, ill_begun, no_digit, too_large, read_numeral}
+use Rattle.whole.proofs.Numerals.{few, digit_more, too_long, ill_begun, no_digit, too_large, read_numeral}
 use Rattle.whole.proofs.numeral.Goals as goal
 use Rattle.whole.proofs.numeral.Goals.{then-digits-gt-MOST_DIGITS-via-then-digits-gt-MOST_DIGITS, then-digits-gt-MOST_DIGITS-via-else-digits-gt-MOST_DIGITS+then-not-well_begun, then-digit-lt-NOUGHT-via-then-digit-lt-NOUGHT, then-digit-lt-NOUGHT-via-else-digit-lt-NOUGHT+then-digit-gt-NINE}
 

@@ -3,7 +3,8 @@ use Rattle.std.proofs.Common.{◌≡◌, length, sym, refl, ap, ◌∙◌, arith
 use Rattle.std.proofs.lemmas.List.{append-nil}
 use Rattle.interfaces.specs.Printing.{padding}
 use Rattle.text.specs.Text.{text_means, text_packed, text_of}
-use Rattle.text.specs.Packing.{means_of, too_long, not_printable}
+use Rattle.text.specs.Packing.{too_long, not_printable}
+use Rattle.text.proofs.Records.{means_of}
 use Rattle.text.proofs.TextPrinted.read.Goals as goal
 use Rattle.text.proofs.TextPrinted.read.Goals.{then-text-gt-LONGEST-via-then-text-gt-LONGEST, then-text-gt-LONGEST-via-else-text-gt-LONGEST+then-not-all_printable}
 
