@@ -1,16 +1,16 @@
 -- One trace more in front: the ring turns by one place, and only that place's block is written. Assumes nothing.
-use Rattle.std.proofs.Common.{◌≡◌, ℕ, zero, suc, ◌+◌, ◌-◌, ◌*◌, ◌<◌, ◌≤◌, Bool, true, false, cond, eqb, ltb, ◌≢◌, ◌⊎◌, List, [], ◌∷◌, map, length, get_or, take, set, sym, refl, ap, ◌∙◌, inl, inr, add-one, arith, ltb-false, ltb-true, le-ltb, lt-ltb, eqb-true}
+use Rattle.std.proofs.Common.{◌≡◌, ℕ, zero, suc, ◌+◌, ◌-◌, ◌<◌, ◌≤◌, Bool, true, false, cond, eqb, ◌≢◌, ◌⊎◌, List, [], ◌∷◌, map, length, get_or, take, set, sym, refl, ap, ◌∙◌, inl, inr, add-one, arith, le-ltb, lt-ltb, eqb-true}
 use borrow.Author.Tests.{eqb-false}
 use Rattle.std.specs.List.{range_with_len}
 use Rattle.std.proofs.lemmas.List.FromFn.{length-map-range_with_len, take-map-range_with_len}
 use Rattle.std.proofs.lemmas.List.{get_or-set_same, get_or-set_other, get_or_past, take_all}
 use Rattle.std.proofs.lemmas.Bool.{cond-true, cond-false, cases_lt, cases_eq, cases_order}
 use Rattle.interfaces.specs.declared.cell.Cell.{Cell}
-use Rattle.interfaces.specs.Cells.{cell_count, ask_limit, trace_length, but}
-use Rattle.interfaces.specs.Traces.{Trace, pairs_of}
+use Rattle.interfaces.specs.Cells.{cell_count, but}
+use Rattle.interfaces.specs.Traces.{pairs_of}
 use Rattle.rows.specs.declared.row.Asked.{Asked}
 use Rattle.rows.specs.declared.row.Row.{Row}
-use Rattle.rows.specs.Blocks.{block_length, block_at, block, Apart, Wrote}
+use Rattle.rows.specs.Blocks.{block_at, block, Apart, Wrote}
 use Rattle.rows.specs.Rings.{place_in, before, one_up}
 use Rattle.rows.proofs.Rows.{uncounted}
 use Rattle.rows.specs.Kept.{asked_cells, no_asked, no_row, trace_of, trace_at, trace_aged, row_traces, traces_of}

@@ -1,5 +1,5 @@
 -- Writing a block of lent memory, one value at a time. Assumes nothing.
-use Rattle.std.proofs.Common.{◌≡◌, ℕ, ◌+◌, ◌-◌, ◌<◌, ◌≤◌, ◌⊎◌, List, [], ◌∷◌, length, get_or, take, drop, set, sym, refl, ap, ◌∙◌, inl, inr, arith}
+use Rattle.std.proofs.Common.{◌≡◌, ℕ, ◌+◌, ◌-◌, ◌<◌, ◌≤◌, List, length, get_or, take, drop, set, sym, refl, ap, ◌∙◌, inl, inr, arith}
 use Rattle.std.proofs.lemmas.List.{length-set, length-drop, take_all, take-take, take_more, take_more_set, take-set-le, drop-set-add, drop-set-lt, get_or-take, get_or-set_same}
 use Rattle.interfaces.specs.Cells.{ask_limit}
 use Rattle.rows.specs.Blocks.{block_length, block, Apart, Wrote}

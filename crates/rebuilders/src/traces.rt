@@ -66,7 +66,7 @@ impl<'a, V: Value, const D: usize> Traces<'a, V, D> {
     fn push(&mut self, cell: Cell, cells: &[Cell], values: &[V], res: V)
         requires depth { 0 < D }
         requires pairs { (length cells.now ≡ length values.now) × (length cells.now ≤ ask_limit) }
-        ensures { (k : ℕ) → traces_of V.Value.canon V.Value.blank D self.new.rows self.new.values.now k ≡ but (number_of cell) (take D (record { asks = pairs_of V.Value.canon cells.now values.now; res = V.Value.canon res } ∷ traces_of V.Value.canon V.Value.blank D self.old.rows self.old.values.now (number_of cell))) (traces_of V.Value.canon V.Value.blank D self.old.rows self.old.values.now) k }
+        ensures { (k : ℕ) → traces_of V.Value.canon V.Value.blank D self.new.rows self.new.values.now k ≡ but (number_of cell) (take D (record { asks = pairs_of V.Value.canon cells.now values.now; result = V.Value.canon res } ∷ traces_of V.Value.canon V.Value.blank D self.old.rows self.old.values.now (number_of cell))) (traces_of V.Value.canon V.Value.blank D self.old.rows self.old.values.now) k }
     {
         let row = row_of(&self.rows, cell).pushed(Asked::new(cells));
         let base = row.place(0) * TRACE + cell.number() * BLOCK;

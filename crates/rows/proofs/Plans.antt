@@ -1,12 +1,12 @@
 -- Pairs held against a trace's asks, one at a time, and the plan that comes of it. Assumes of a kind of value its laws.
-use Rattle.std.proofs.Common.{◌≡◌, ℕ, zero, suc, ◌+◌, ◌-◌, ◌<◌, ◌≤◌, Bool, true, false, cond, eqb, ◌≢◌, List, [], ◌∷◌, map, length, get_or, drop, sym, refl, ap, ◌∙◌, arith, eq-eqb, ne_eqb}
+use Rattle.std.proofs.Common.{◌≡◌, ℕ, suc, ◌+◌, ◌-◌, ◌<◌, ◌≤◌, Bool, true, false, cond, eqb, ◌≢◌, List, [], ◌∷◌, map, length, get_or, drop, sym, refl, ap, ◌∙◌, arith, eq-eqb, ne_eqb}
 use mathlib.Core.Option.{Option, none, some}
 use Rattle.std.specs.List.{range_with_len}
-use Rattle.std.proofs.lemmas.List.{drop_more, drop_all, length-drop}
+use Rattle.std.proofs.lemmas.List.{drop_more, drop_all}
 use Rattle.std.proofs.lemmas.Bool.{cond-true, cond-false}
 use Rattle.interfaces.specs.declared.cell.Cell.{Cell}
 use Rattle.interfaces.specs.Cells.{ask_limit, number_of}
-use Rattle.interfaces.specs.Traces.{Pair, Trace, pairs_of, after, kept_to, exact, next_of, onward, chosen, plan_on, plan, Planned, runs, keeps, next}
+use Rattle.interfaces.specs.Traces.{Pair, Trace, pairs_of, after, kept_to, exact, next_of, onward, chosen, plan, Planned, runs, keeps, next}
 use Rattle.rows.specs.Kept.{trace_of, preferred}
 
 none_either : {A : Type 0} (a b : Bool) → ◌≡◌ {A = Option A} (cond a (cond b none none) none) none

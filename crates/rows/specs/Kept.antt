@@ -1,6 +1,6 @@
 -- How the row of a cell and the lent memory stand for the cell's traces. What memory holds outside the blocks of
 -- the traces that a row counts is of no account.
-use Rattle.std.specs.Prelude.{ℕ, List, [], ◌∷◌, map, take, slice_index_or}
+use Rattle.std.specs.Prelude.{ℕ, List, [], map, take, slice_index_or}
 use Rattle.std.proofs.Common.{zero-le}
 use Rattle.std.specs.List.{range_with_len}
 use Rattle.interfaces.specs.declared.cell.Cell.{Cell}

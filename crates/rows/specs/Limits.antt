@@ -1,12 +1,12 @@
 -- The traces that a row stands for are within their limits, whatever the row and the memory. Assumes nothing.
-use Rattle.std.specs.Prelude.{◌≡◌, ℕ, zero, suc, ◌+◌, ◌≤◌, List, [], ◌∷◌, map, length, slice_index_or}
-use Rattle.std.proofs.Common.{sym, arith}
+use Rattle.std.specs.Prelude.{ℕ, zero, suc, ◌+◌, ◌≤◌, List, [], ◌∷◌, map, length, slice_index_or}
+use Rattle.std.proofs.Common.{arith}
 use Rattle.std.specs.List.{range_with_len, AllByRecursion as All}
 use Rattle.std.proofs.lemmas.List.FromFn.{length-map-range_with_len}
 use Rattle.std.proofs.lemmas.List.{length-take}
 use Rattle.interfaces.specs.declared.cell.Cell.{Cell}
 use Rattle.interfaces.specs.Cells.{ask_limit}
-use Rattle.interfaces.specs.Traces.{Trace, Bounded, pairs_of}
+use Rattle.interfaces.specs.Traces.{Bounded, pairs_of}
 use Rattle.rows.specs.declared.row.Asked.{Asked}
 use Rattle.rows.specs.declared.row.Row.{Row}
 use Rattle.rows.specs.Kept.{asked_cells, no_asked, trace_aged, row_traces}

@@ -1,9 +1,9 @@
 -- The steps of an alias. Assumes nothing.
-use Rattle.std.proofs.Common.{◌≡◌, ℕ, ◌<◌, List, [], ◌∷◌, map, length, get_or, Some, None, Option as Maybe, sym, refl, ap, ◌∙◌, arith}
+use Rattle.std.proofs.Common.{◌≡◌, ◌<◌, List, [], ◌∷◌, map, length, get_or, Some, Option as Maybe, refl, ap, arith}
 use Rattle.interfaces.specs.declared.cell.Cell.{Cell}
 use Rattle.interfaces.specs.Cells.{number_of}
-use Rattle.interfaces.specs.Tasks.{Act, asks, gives, step_of}
-use Rattle.tryout.specs.Alias.{alias, alias_of}
+use Rattle.interfaces.specs.Tasks.{asks, gives, step_of}
+use Rattle.tryout.specs.Alias.{alias_of}
 
 module _ {V : Type 0} (canon : V → V) (blank : V) where
   pub asked : (o : Maybe Cell) (c : Cell) (answers : List V) → o ≡ Some c → length answers ≡ 0

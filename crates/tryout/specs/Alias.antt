@@ -1,9 +1,9 @@
 -- The smallest language with an ask: a text of one byte stands for the value of the cell of that number.
-use Rattle.std.specs.Prelude.{ℕ, ◌<◌, Bool, true, false, cond, List, [], ◌∷◌, Some, None, Option as Maybe}
+use Rattle.std.specs.Prelude.{ℕ, List, [], ◌∷◌, Some, None, Option as Maybe}
 use Rattle.std.proofs.Math.Option.{Option, none, some}
 use Rattle.interfaces.specs.declared.cell.Cell.{Cell}
 use Rattle.interfaces.specs.Cells.{number_of}
-use Rattle.interfaces.specs.Tasks.{Act, asks, gives, Def, Verdict, legal, illegal}
+use Rattle.interfaces.specs.Tasks.{asks, gives, Def, Verdict, legal, illegal}
 
 -- asks for the cell, then gives its value
 abbrev pub alias : {M : Type 0} → ℕ → Def M

@@ -1,7 +1,7 @@
 -- A definition of the alias language has no fault at all.
 use Rattle.std.specs.Prelude.{◌≡◌, ℕ, ◌≢◌, List, [], ◌∷◌}
 use Rattle.std.proofs.Common.{arith}
-use Rattle.interfaces.specs.Tasks.{Act, asks, gives, faults, Own, OwnFaults}
+use Rattle.interfaces.specs.Tasks.{faults, Own}
 use Rattle.tryout.specs.Alias.{alias, alias_stands}
 
 faultless : {M : Type 0} (b : ℕ) (answers : List M) (n m : ℕ) → alias b answers ≡ faults n m → (n ≢ 16) × (n ≢ 17)

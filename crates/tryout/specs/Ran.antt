@@ -2,7 +2,7 @@
 use Rattle.std.specs.Prelude.{◌≡◌, ℕ, Bool, true, false, List, [], ◌∷◌, take, Ok, Err, Result, ◌≢◌}
 use Rattle.interfaces.specs.Cells.{but}
 use Rattle.interfaces.specs.Refusals.{Said, no}
-use Rattle.interfaces.specs.Tasks.{Act, asks, gives, faults}
+use Rattle.interfaces.specs.Tasks.{Act, gives}
 use Rattle.interfaces.specs.Traces.{Trace}
 
 -- a value that is given is stored, unless the cell is locked; other steps change no value

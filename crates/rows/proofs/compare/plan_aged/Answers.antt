@@ -1,8 +1,8 @@
-use Rattle.std.proofs.Common.{◌≡◌, ℕ, ◌+◌, ◌-◌, ◌*◌, [], ◌∷◌, sym, ap, ◌∙◌, arith}
+use Rattle.std.proofs.Common.{◌≡◌, ◌+◌, ◌-◌, ◌*◌, [], ◌∷◌, ap, ◌∙◌, arith}
 use Rattle.interfaces.specs.Cells.{trace_length, number_of}
 use Rattle.interfaces.specs.Traces.{plan, pairs_of}
 use Rattle.rows.specs.Blocks.{block_length, block_at}
-use Rattle.rows.specs.Kept.{trace_aged, no_asked}
+use Rattle.rows.specs.Kept.{no_asked}
 use Rattle.rows.proofs.Rows.{read_aged}
 use Rattle.rows.proofs.compare.plan_aged.Goals as goal
 
@@ -13,7 +13,7 @@ returns g c =
     let b : base ≡ block_at c.place-place.result (number_of c.args.cell) = omega arith in
     let s : base + block_length - base ≡ block_length = omega arith in
     c.plan_by.ensures
-    ∙ ap (λ t. plan g.row.V-Value.alike (t ∷ []) (pairs_of g.row.V-Value.canon c.args.cells.now c.args.values.now))
-    (read_aged g.row.V-Value.canon g.row.V-Value.blank g.row.D c.args.row.now c.args.held.now (number_of c.args.cell) c.args.age
+    ∙ ap (λ t. plan g.V.Value.alike (t ∷ []) (pairs_of g.V.Value.canon c.args.cells.now c.args.values.now))
+    (read_aged g.V.Value.canon g.V.Value.blank g.row.D c.args.row.now c.args.held.now (number_of c.args.cell) c.args.age
     c.place-place.result c.asked-asked.result _ base (base + block_length - base)
     c.place-place.ensures.place (c.asked-asked.ensures no_asked) c.as_slice.ensures b s)

@@ -6,5 +6,5 @@ use Rattle.rebuilders.proofs.traces.TracesRebuilder.forget.Goals as goal
 
 pub returns : goal.returns
 returns g c k =
-    ap (λ rows. traces_of g.row.V-Value.canon g.row.V-Value.blank g.row.D rows c.args.self.now.values.now k) c.put-row.ensures.rows
-    ∙ forgotten g.row.V-Value.canon g.row.V-Value.blank g.row.D c.args.self.now.rows c.args.self.now.values.now (number_of c.args.cell) _ c.put-row.ensures.inside (search rules) k
+    ap (λ rows. traces_of g.V.Value.canon g.V.Value.blank g.row.D rows c.args.self.now.values.now k) c.put_row.ensures.rows
+    ∙ forgotten g.V.Value.canon g.V.Value.blank g.row.D c.args.self.now.rows c.args.self.now.values.now (number_of c.args.cell) _ c.put_row.ensures.inside (search rules) k

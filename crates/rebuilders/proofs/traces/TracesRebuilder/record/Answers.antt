@@ -1,4 +1,4 @@
-use Rattle.std.proofs.Common.{◌≡◌, sym, ap, ◌∙◌, arith}
+use Rattle.std.proofs.Common.{sym, ap, ◌∙◌, arith}
 use Rattle.interfaces.specs.Cells.{number_of}
 use Rattle.interfaces.specs.Tasks.{answer}
 use Rattle.interfaces.specs.Traces.{after_recording}
@@ -8,10 +8,10 @@ use Rattle.rebuilders.proofs.traces.TracesRebuilder.record.Goals as goal
 
 pub returns-else-this-gt0 : goal.returns-else-this-gt0
 returns-else-this-gt0 g c =
-    let r = recorded g.row.V-Value.canon c.args.cells.now c.args.values.now c.args.res (omega arith) (omega arith) in
+    let r = recorded g.V.Value.canon c.args.cells.now c.args.values.now c.args.res (omega arith) (omega arith) in
     record {
       answer = sym (ap answer r);
       traces = λ k.
-          none_recorded g.row.V-Value.canon g.row.V-Value.blank g.row.D c.args.self.now.rows c.args.self.now.values.now (number_of c.args.cell) _ (omega arith) k
-          ∙ sym (ap (λ x. after_recording g.row.D x (number_of c.args.cell) (traces_of g.row.V-Value.canon g.row.V-Value.blank g.row.D c.args.self.now.rows c.args.self.now.values.now) k) r);
+          none_recorded g.V.Value.canon g.V.Value.blank g.row.D c.args.self.now.rows c.args.self.now.values.now (number_of c.args.cell) _ (omega arith) k
+          ∙ sym (ap (λ x. after_recording g.row.D x (number_of c.args.cell) (traces_of g.V.Value.canon g.V.Value.blank g.row.D c.args.self.now.rows c.args.self.now.values.now) k) r);
     }
