@@ -1,7 +1,7 @@
-use Rattle.std.proofs.Common.{◌≡◌, List, [], ◌∷◌, map, sym, refl, ap, ◌∙◌, subst, zero-le}
+use Rattle.std.proofs.Common.{[], ◌∷◌, map, ap, subst, zero-le}
 use Rattle.text.specs.Text.{text_canon, text_means}
 use Rattle.fragment_grammar.specs.Grammar.{Sound}
-use Rattle.fragment_grammar.specs.Meaning.{brought, brings}
+use Rattle.fragment_grammar.specs.Meaning.{brought}
 use Rattle.fragment.specs.Readings.{item_means}
 use Rattle.fragment.proofs.Running.{grew_joined, plain_printable}
 use Rattle.fragment.proofs.run.grown_by.Goals as goal
