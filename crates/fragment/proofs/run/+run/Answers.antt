@@ -43,7 +43,7 @@ pub returns-in-Overflows : goal.returns-in-Overflows
 returns-in-Overflows t c =
     let n = item_next c.args.text.now c.args.at c.if-at-text.false (item_means c.in-Ok.item) c.in-Ok.next c.in-Ok.ensures in
     let o = c.in-Overflows.ensures in
-    run_overflows c.args.text.now c.args.at _ _ n (text_means c.args.before) (map text_canon c.args.answers.now) o.0 o.1 o.2 o.3 _ c.overflow.ensures
+    run_overflows c.args.text.now c.args.at _ _ n (text_means c.args.before) (map text_canon c.args.answers.now) o.0 o.1 o.2 o.3 _ (search rules)
 
 pub returns-in-Joined : goal.returns-in-Joined
 returns-in-Joined t c =

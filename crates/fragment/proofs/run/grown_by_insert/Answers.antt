@@ -1,4 +1,4 @@
-use Rattle.std.proofs.Common.{◌<◌, map, length, refl, arith, true-eqb, false-eqb}
+use Rattle.std.proofs.Common.{◌<◌, map, length, refl, arith, rules, true-eqb, false-eqb}
 use Rattle.std.proofs.lemmas.List.{length-map}
 use Rattle.interfaces.specs.Cells.{number_of}
 use Rattle.text.specs.Text.{text_canon, text_means}
@@ -14,4 +14,4 @@ returns c =
     let l : 0 < length c.args.answers.now = omega arith in
     let m = length-map c.args.answers.now text_canon in
     grew_joined _ (text_means c.args.before) _ (map text_canon c.args.answers.now) 1
-    (insert_brings (number_of c.args.cell) c.args.answers.now _ l refl) (omega arith) (omega arith) c.append.result c.append.ensures.means c.joined.result c.joined.ensures
+    (insert_brings (number_of c.args.cell) c.args.answers.now _ l refl) (omega arith) (omega arith) c.append.result (search rules) c.joined.result (search rules)

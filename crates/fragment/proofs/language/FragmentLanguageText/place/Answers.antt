@@ -28,7 +28,7 @@ returns c =
     record {
       answer = sym (ap answer p);
       defs = λ k.
-          meant_put fragment_stands _ c.args.text.now (text_at c.args.self.now.memory.bytes.now) c.args.cell.0 k (meaning r.0) l
-          (holds c.args.text.now l u (legal_full c.args.text.now r.0 r.1)) (ap verdict r.1) (c.put.ensures.texts k)
+          meant_put fragment_stands (text_at c.put.new.self.bytes.now k) c.args.text.now (text_at c.args.self.now.memory.bytes.now) c.args.cell.0 k (meaning r.0) l
+          (holds c.args.text.now l u (legal_full c.args.text.now r.0 r.1)) (ap verdict r.1) (search rules)
           ∙ sym (ap (λ x. after_placing x c.args.cell.0 (λ j. meant fragment_stands (text_at c.args.self.now.memory.bytes.now j)) k) p);
     }
