@@ -11,7 +11,7 @@ use interfaces::cell::{Cell, DEFINITIONS, TEXT};
 use interfaces::refusal::Refusal;
 
 /// The text of each cell. A language holds it in a struct of its own, whose ghost field says that the memory has
-/// room, so that what passed its check carries the proof in its type: `ghost room: { Roomy (now memory.bytes) }`.
+/// room, so that what passed its check carries the proof in its type: `ghost room: { Roomy memory.bytes.now }`.
 #[derive(Drop)]
 pub struct TextMemory<'a> {
     bytes: &'a mut [u8],

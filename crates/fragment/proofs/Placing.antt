@@ -1,15 +1,14 @@
 -- The readers of the code read what the readers of the grammar read. Assumes nothing.
-use Rattle.std.proofs.Common.{◌≡◌, ℕ, suc, ◌+◌, ◌-◌, ◌<◌, ◌≤◌, Bool, true, false, cond, eqb, List, [], ◌∷◌, ◌++◌, length, get_or, take, drop, Ok, Err, Result, sym, refl, ap, ◌∙◌, subst, arith}
+use Rattle.std.proofs.Common.{◌≡◌, ℕ, suc, ◌+◌, ◌<◌, ◌≤◌, Bool, true, false, cond, eqb, List, [], length, get_or, take, drop, Ok, Err, Result, sym, refl, ap, ◌∙◌, subst, arith}
 use Rattle.std.proofs.lemmas.List.{drop-drop, drop_all, get_or-drop, take_at, length-append, length-drop, length-take-le}
 use Rattle.std.proofs.lemmas.Bool.{cond-true, cond-false}
-use Rattle.interfaces.specs.Cells.{cell_count}
 use Rattle.names.specs.Names.{name_of, NameAt, NoNameAt}
 use Rattle.fragment_grammar.specs.Grammar.{Item, plain, insert, written, opening, closing, question, Sound}
 use Rattle.fragment_grammar.specs.Reader.{Read, got, stuck, further, and_then, head, nothing, led, is_column, is_first, is_second, name_in, named, filled_in, tested_in, is_plain, item_in, Rows, row, astray, fronted, rows}
-use Rattle.fragment_grammar.proofs.Reading.{Took, Right}
-use Rattle.fragment_grammar.proofs.NameReading.{Found, Missed, NameRight, name_right, name_shortest, same_name}
+use Rattle.fragment_grammar.proofs.Reading.{Right}
+use Rattle.fragment_grammar.proofs.NameReading.{NameRight, name_right, name_shortest, same_name}
 use Rattle.fragment_grammar.proofs.ItemReading.{Word, item_right, word_full}
-use Rattle.fragment_grammar.proofs.RowReading.{Strayed, RowRight, rows_got, rows_stuck, rows_right}
+use Rattle.fragment_grammar.proofs.RowReading.{RowRight, rows_got, rows_stuck, rows_right}
 use Rattle.fragment.specs.Readings.{placed, row_answer}
 
 -- a call that went well did not fail

@@ -1,19 +1,17 @@
 -- The steps of the code are those of the items. Assumes nothing.
-use Rattle.std.proofs.Common.{◌≡◌, ℕ, zero, suc, ◌+◌, ◌-◌, ◌<◌, ◌≤◌, Bool, true, false, cond, ◌&&◌, eqb, leb, List, [], ◌∷◌, ◌++◌, map, length, get_or, take, drop, Some, None, Option, sym, refl, ap, ◌∙◌, subst, ⊎_elim, arith}
-use Rattle.std.proofs.lemmas.List.{drop-map, length_map, length-append, take_rest}
+use Rattle.std.proofs.Common.{◌≡◌, ℕ, ◌+◌, ◌-◌, ◌<◌, ◌≤◌, Bool, true, false, cond, eqb, leb, List, [], ◌∷◌, ◌++◌, map, length, get_or, take, drop, Some, None, Option, sym, refl, ap, ◌∙◌, subst, ⊎_elim, arith}
+use Rattle.std.proofs.lemmas.List.{drop-map, take_rest}
 use Rattle.std.proofs.lemmas.Bool.{cond-true, cond-false, cases_lt, le-leb, lt-leb, and_from}
-use Rattle.interfaces.specs.Cells.{cell_count, number_of}
 use Rattle.interfaces.specs.Tasks.{Act, asks, gives, faults, step_of}
 use Rattle.text.specs.Text.{text_longest, text_means, text_of, text_canon, text_blank, sound_text, printable_byte, Extends}
 use Rattle.text.specs.declared.Text.{Text}
-use Rattle.text.specs.Packing.{form, canon_is}
+use Rattle.text.specs.Packing.{canon_is}
 use Rattle.definitions.specs.Meant.{definition_in, meant}
-use Rattle.fragment_grammar.specs.Grammar.{Item, plain, insert, choice, written, IsPlain, Sound}
+use Rattle.fragment_grammar.specs.Grammar.{Item, insert, choice, written, IsPlain}
 use Rattle.fragment_grammar.specs.Meaning.{Brought, lacks, brings, brought, chosen, step_at, runs}
 use Rattle.fragment_grammar.specs.Reader.{Rows, row, astray, fronted, rows}
 use Rattle.fragment_grammar.specs.Stands.{verdict, fragment_stands}
 use Rattle.fragment.specs.declared.run.Grown.{Grown}
-use Rattle.fragment.specs.declared.run.Grown.TheVariants.{Asks, Overflows, Joined}
 use Rattle.fragment.specs.Steps.{joined_as, Grew, RunsAs}
 use Rattle.fragment.proofs.Placing.{Next, row_end}
 

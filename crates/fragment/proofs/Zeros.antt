@@ -1,9 +1,9 @@
 -- No fragment has a zero byte, so memory holds it as it is. Assumes nothing.
-use Rattle.std.proofs.Common.{◌≡◌, ℕ, ◌+◌, ◌/◌, ◌%◌, ◌<◌, Bool, true, false, cond, eqb, ltb, List, [], ◌∷◌, ◌++◌, length, sym, refl, ◌∙◌, subst, ⊎_elim, arith}
+use Rattle.std.proofs.Common.{◌≡◌, ℕ, ◌+◌, ◌/◌, ◌%◌, ◌<◌, true, false, eqb, ltb, List, [], ◌∷◌, ◌++◌, length, sym, refl, ◌∙◌, subst, ⊎_elim, arith}
 use Rattle.std.proofs.lemmas.Bool.{cond-true, cond-false, cond_both, cases_Bool, ne_eqb, true≢false}
 use Rattle.names.specs.Names.{row_count, row_name, name_of}
 use Rattle.definitions.specs.Memory.{zero_in}
-use Rattle.fragment_grammar.specs.Grammar.{Item, plain, insert, choice, opening, closing, question, colon, written, Sound, Reads, done, more}
+use Rattle.fragment_grammar.specs.Grammar.{Item, plain, insert, choice, closing, question, colon, written, Sound, Reads, done, more}
 use Rattle.fragment_grammar.specs.Reader.{row, rows}
 use Rattle.fragment_grammar.proofs.RowReading.{RowRight, rows_right}
 

@@ -1,5 +1,5 @@
 -- What the answers of the readers mean.
-use Rattle.std.specs.Prelude.{ℕ, ◌+◌, List, Ok, Err, Result}
+use Rattle.std.specs.Prelude.{ℕ, ◌+◌, Ok, Err, Result}
 use Rattle.interfaces.specs.Cells.{number_of}
 use Rattle.fragment_grammar.specs.Grammar.{Item, plain, insert, choice}
 use Rattle.fragment_grammar.specs.Reader.{Read, got, stuck, Rows, row, astray}

@@ -1,11 +1,10 @@
 -- The reader of an item is right for the items of a fragment. Assumes nothing.
-use Rattle.std.proofs.Common.{◌≡◌, ℕ, zero, suc, ◌+◌, ◌-◌, ◌<◌, ◌≤◌, Bool, true, false, cond, not, ◌&&◌, eqb, leb, ◌≢◌, ◌⊎◌, List, [], ◌∷◌, ◌++◌, length, get_or, take, drop, sym, refl, ap, ◌∙◌, subst, inl, inr, ⊎_elim, zero-le, arith}
-use Rattle.std.proofs.lemmas.Bool.{cond_both, eqb-true, eqb-false, and_parts, and_from, leb-true, le-leb, ne_eqb, not_true, not_from_false, both_ways, false≢true}
-use Rattle.interfaces.specs.Cells.{cell_count}
+use Rattle.std.proofs.Common.{◌≡◌, ℕ, ◌<◌, true, not, ◌&&◌, eqb, leb, ◌⊎◌, List, [], ◌∷◌, ◌++◌, length, sym, refl, ap, ◌∙◌, subst, inl, inr, ⊎_elim, arith}
+use Rattle.std.proofs.lemmas.Bool.{cond_both, eqb-true, eqb-false, and_parts, and_from, leb-true, le-leb, ne_eqb, not-true, not_from_false, both_ways, false≢true}
 use Rattle.names.specs.Names.{name_of}
 use Rattle.fragment_grammar.specs.Grammar.{Item, plain, insert, choice, opening, closing, question, colon, written, IsPlain, Sound}
-use Rattle.fragment_grammar.specs.Reader.{Read, got, stuck, head, nothing, led, named, empty_in, filled_in, tested_in, is_plain, item_in}
-use Rattle.fragment_grammar.proofs.Reading.{Took, Halted, Right, Just, nothing_right, Led, led_right, widen}
+use Rattle.fragment_grammar.specs.Reader.{got, head, nothing, led, named, empty_in, filled_in, tested_in, is_plain, item_in}
+use Rattle.fragment_grammar.proofs.Reading.{Took, Right, Just, nothing_right, Led, led_right, widen}
 use Rattle.fragment_grammar.proofs.NameReading.{Named, named_right}
 
 led_head : {A : Type 0} {b : ℕ} {C : List ℕ → A → Type 0} (s : List ℕ) (a : A) (z : List ℕ) → Led b C s a → head (s ++ z) ≡ b
@@ -93,13 +92,17 @@ plain_parts b h =
     let p = and_parts (leb 32 b) (leb b 126 && (not (eqb b opening) && not (eqb b closing))) h in
     let q = and_parts (leb b 126) (not (eqb b opening) && not (eqb b closing)) p.1 in
     let r = and_parts (not (eqb b opening)) (not (eqb b closing)) q.1 in
-    (leb-true 32 b p.0, leb-true b 126 q.0, eqb-false b opening (not_true (eqb b opening) r.0), eqb-false b closing (not_true (eqb b closing) r.1))
+    let low = leb-true 32 b p.0 in
+    let high = leb-true b 126 q.0 in
+    let no_open = eqb-false b opening (not-true (eqb b opening) r.0) in
+    let no_close = eqb-false b closing (not-true (eqb b closing) r.1) in
+    (omega arith, omega arith, omega arith, omega arith)
 
 pub is_plain_lem : (b : ℕ) → IsPlain b → is_plain b ≡ true
 is_plain_lem b h =
-    and_from (leb 32 b) (leb b 126 && (not (eqb b opening) && not (eqb b closing))) (le-leb 32 b h.0)
-    (and_from (leb b 126) (not (eqb b opening) && not (eqb b closing)) (le-leb b 126 h.1)
-    (and_from (not (eqb b opening)) (not (eqb b closing)) (not_from_false (eqb b opening) (ne_eqb b opening h.2)) (not_from_false (eqb b closing) (ne_eqb b closing h.3))))
+    and_from (leb 32 b) (leb b 126 && (not (eqb b opening) && not (eqb b closing))) (le-leb 32 b (omega arith))
+    (and_from (leb b 126) (not (eqb b opening) && not (eqb b closing)) (le-leb b 126 (omega arith))
+    (and_from (not (eqb b opening)) (not (eqb b closing)) (not_from_false (eqb b opening) (ne_eqb b opening (omega arith))) (not_from_false (eqb b closing) (ne_eqb b closing (omega arith)))))
 
 record Lone (s : List ℕ) (i : Item) : Type 0 where
   byte : ℕ

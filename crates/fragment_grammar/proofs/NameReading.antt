@@ -1,13 +1,13 @@
 -- The names of cells as a reader finds them, and words that begin with a name. Assumes nothing.
-use Rattle.std.proofs.Common.{◌≡◌, ℕ, zero, suc, ◌+◌, ◌-◌, ◌*◌, ◌/◌, ◌%◌, ◌<◌, ◌≤◌, Bool, true, false, cond, ◌&&◌, eqb, ltb, leb, ◌⊎◌, List, [], ◌∷◌, ◌++◌, length, get_or, take, drop, sym, refl, ap, ◌∙◌, subst, inl, inr, ⊎_elim, zero-le, add-suc, arith, rules}
+use Rattle.std.proofs.Common.{◌≡◌, ℕ, suc, ◌+◌, ◌-◌, ◌*◌, ◌<◌, ◌≤◌, true, false, ◌&&◌, ltb, leb, List, [], ◌∷◌, ◌++◌, length, get_or, take, drop, sym, refl, ap, subst, ⊎_elim, zero-le, arith, rules}
 use lib.Seq.{take-append-add}
-use Rattle.std.proofs.lemmas.List.{append_assoc, append-nil, take-append-drop, take_at, take-take, drop_at, drop-take, length-append, length-drop, length-take, get_or-append-add, get_or_past, take_all}
-use Rattle.std.proofs.lemmas.Bool.{cond_both, and_parts, and_from, and_cases, leb-true, leb-false, ltb-true, ltb-false, le-leb, lt-ltb, cases_order, cases_lt, both_ways}
+use Rattle.std.proofs.lemmas.List.{append_assoc, append-nil, take-append-drop, take_at, take-take, drop_at, drop-take, length-append, length-drop, length-take, get_or-append-add, get_or_past}
+use Rattle.std.proofs.lemmas.Bool.{cond_both, and_parts, and_from, leb-true, ltb-true, le-leb, lt-ltb, cases_order, cases_lt, both_ways}
 use Rattle.interfaces.specs.Cells.{cell_count}
 use Rattle.names.specs.Names.{ByteAt, column_count, row_count, name_of, NameAt}
-use Rattle.names.proofs.Standing.{Stands, stands, short_name, long_name, short_at, long_at, name_length}
+use Rattle.names.proofs.Standing.{Stands, stands, short_name, short_at, long_at, name_length}
 use Rattle.fragment_grammar.specs.Reader.{Read, got, stuck, further, and_then, head, is_column, is_first, is_second, name_in, named}
-use Rattle.fragment_grammar.proofs.Reading.{Took, Halted, Right, agree}
+use Rattle.fragment_grammar.proofs.Reading.{Halted, Right, agree}
 
 -- the bytes of a name with something behind it
 standing : (m : ℕ) (ys : List ℕ) → m < cell_count → Stands (name_of m ++ ys) 0 m

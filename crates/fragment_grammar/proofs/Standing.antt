@@ -1,14 +1,14 @@
 -- What a text stands for agrees with the grammar. Assumes nothing.
-use Rattle.std.proofs.Common.{◌≡◌, ℕ, suc, ◌+◌, ◌<◌, ◌≤◌, List, [], ◌∷◌, ◌++◌, length, take, drop, sym, refl, ap, ◌∙◌, subst, arith}
+use Rattle.std.proofs.Common.{◌≡◌, ℕ, suc, List, ◌++◌, length, take, sym, refl, ap, subst, arith}
 use Rattle.std.proofs.lemmas.List.{take-append-le, take-take, length-take-le}
-use Rattle.interfaces.specs.Tasks.{Def, Verdict, legal, illegal}
+use Rattle.interfaces.specs.Tasks.{Def, legal, illegal}
 use Rattle.text.specs.declared.Text.{Text}
-use Rattle.definitions.specs.Longest.{Begins, Longest}
+use Rattle.definitions.specs.Longest.{Longest}
 use Rattle.definitions.proofs.Places.{one_place}
 use Rattle.fragment_grammar.specs.Grammar.{Item, Reads, Legal}
 use Rattle.fragment_grammar.specs.Meaning.{meaning}
 use Rattle.fragment_grammar.specs.Reader.{Rows, row, astray, rows}
-use Rattle.fragment_grammar.specs.Stands.{verdict, fragment_stands, OneReading, Right, StandsRight}
+use Rattle.fragment_grammar.specs.Stands.{verdict, OneReading, StandsRight}
 use Rattle.fragment_grammar.proofs.RowReading.{Strayed, RowRight, rows_right, reads_rows}
 
 pub one_reading_lem : OneReading

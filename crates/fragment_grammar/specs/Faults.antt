@@ -1,7 +1,7 @@
 -- A fragment faults with 14 alone, so never with the numbers 16 and 17 of the engine.
-use Rattle.std.specs.Prelude.{◌≡◌, ℕ, ◌+◌, Bool, true, false, cond, ◌≢◌, List, [], ◌∷◌, ◌++◌, length, nat_le}
+use Rattle.std.specs.Prelude.{◌≡◌, ℕ, ◌+◌, Bool, true, false, cond, List, [], ◌∷◌, ◌++◌, length, nat_le}
 use Rattle.std.proofs.Common.{arith}
-use Rattle.interfaces.specs.Tasks.{Act, asks, gives, faults, Own, OwnFaults}
+use Rattle.interfaces.specs.Tasks.{Act, asks, gives, faults, Own}
 use Rattle.text.specs.Text.{text_longest}
 use Rattle.text.specs.declared.Text.{Text}
 use Rattle.fragment_grammar.specs.Grammar.{Item, written}

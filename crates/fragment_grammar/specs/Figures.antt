@@ -1,5 +1,5 @@
 -- Fragments that are worked out.
-use Rattle.std.specs.Prelude.{◌≡◌, ℕ, List, [], ◌∷◌, ◌++◌, length, replicate, codes}
+use Rattle.std.specs.Prelude.{◌≡◌, [], ◌∷◌, ◌++◌, length, replicate, codes}
 use Rattle.interfaces.specs.Tasks.{asks, gives, faults, Def, legal}
 use Rattle.text.specs.Text.{text_means, text_of}
 use Rattle.text.specs.declared.Text.{Text}

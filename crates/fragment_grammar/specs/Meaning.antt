@@ -1,5 +1,5 @@
 -- What a row of items does: it asks for cells and puts a text together.
-use Rattle.std.specs.Prelude.{ℕ, ◌+◌, Bool, cond, List, [], ◌∷◌, ◌++◌, length, ◌==◌, nat_le}
+use Rattle.std.specs.Prelude.{ℕ, ◌+◌, cond, List, [], ◌∷◌, ◌++◌, length, ◌==◌, nat_le}
 use Rattle.interfaces.specs.Tasks.{Act, asks, gives, faults, Def}
 use Rattle.text.specs.Text.{text_longest, text_means, text_of}
 use Rattle.text.specs.declared.Text.{Text}

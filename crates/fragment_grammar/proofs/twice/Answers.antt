@@ -1,7 +1,7 @@
-use Rattle.std.proofs.Common.{◌≡◌, ℕ, ◌+◌, leb, List, [], ◌∷◌, ◌++◌, length, sym, refl, ap, ◌∙◌, arith}
+use Rattle.std.proofs.Common.{◌+◌, leb, [], ◌∷◌, length, refl, ◌∙◌, arith}
 use Rattle.std.proofs.lemmas.List.{length-append}
 use Rattle.std.proofs.lemmas.Bool.{cond-true, cond-false, le-leb, lt-leb}
-use Rattle.interfaces.specs.Tasks.{asks, faults}
+use Rattle.interfaces.specs.Tasks.{faults}
 use Rattle.text.specs.Text.{text_means}
 use Rattle.fragment_grammar.specs.Grammar.{insert}
 use Rattle.fragment_grammar.specs.Meaning.{meaning}

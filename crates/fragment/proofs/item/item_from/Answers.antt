@@ -4,13 +4,13 @@ use Rattle.std.proofs.lemmas.Bool.{eq-eqb, ne_eqb}
 use Rattle.fragment.proofs.Placing.{item_plain, item_braces, item_none}
 use Rattle.fragment.proofs.item.item_from.Goals as goal
 
-pub returns-then-is-plain : goal.returns-then-is-plain
-returns-then-is-plain c = sym (item_plain c.args.text.now c.args.at c.if-is-plain.ensures)
+pub returns-then-is_plain : goal.returns-then-is_plain
+returns-then-is_plain c = sym (item_plain c.args.text.now c.args.at c.if-is_plain.ensures)
 
 pub returns-then-byte-eq123 : goal.returns-then-byte-eq123
 returns-then-byte-eq123 c =
-    c.braces-from.ensures
-    ∙ sym (item_braces c.args.text.now c.args.at c.if-is-plain.ensures (sym (eq-eqb (get_or c.args.text.now c.args.at 0) opening c.if-byte-eq123.true)))
+    c.braces_from.ensures
+    ∙ sym (item_braces c.args.text.now c.args.at c.if-is_plain.ensures (sym (eq-eqb (get_or c.args.text.now c.args.at 0) opening c.if-byte-eq123.true)))
 
 pub returns : goal.returns
-returns c = sym (item_none c.args.text.now c.args.at c.if-is-plain.ensures (sym (ne_eqb (get_or c.args.text.now c.args.at 0) opening c.if-byte-eq123.false)))
+returns c = sym (item_none c.args.text.now c.args.at c.if-is_plain.ensures (sym (ne_eqb (get_or c.args.text.now c.args.at 0) opening c.if-byte-eq123.false)))

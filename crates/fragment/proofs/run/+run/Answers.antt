@@ -1,33 +1,32 @@
-use Rattle.std.proofs.Common.{◌≡◌, ◌≤◌, List, map, length, sym, ap, ◌∙◌, subst, arith, rules}
-use Rattle.std.proofs.lemmas.List.{length_map}
+use Rattle.std.proofs.Common.{◌≤◌, map, length, subst, arith, rules}
+use Rattle.std.proofs.lemmas.List.{length-map}
 use Rattle.interfaces.specs.Tasks.{step_means}
 use Rattle.text.specs.Text.{text_means, text_canon}
-use Rattle.fragment_grammar.specs.Reader.{rows}
 use Rattle.fragment.specs.Readings.{item_means}
 use Rattle.fragment.specs.Steps.{RunsAs}
-use Rattle.fragment.proofs.Placing.{Next, item_next, item_astray}
+use Rattle.fragment.proofs.Placing.{item_next, item_astray}
 use Rattle.fragment.proofs.Running.{run_end, run_astray, run_asks, run_overflows, run_joined, answers_left}
 use Rattle.fragment.proofs.run.+run.Goals as goal
 
 pub returns-then-at-text : goal.returns-then-at-text
 returns-then-at-text t c = run_end c.args.text.now c.args.at c.args.before (map text_canon c.args.answers.now) (omega arith)
 
-pub returns-in-default : goal.returns-in-default
-returns-in-default t c =
-    run_astray c.args.text.now c.args.at c.in-default.field-0 (text_means c.args.before) (map text_canon c.args.answers.now) _
-    (item_astray c.args.text.now c.args.at c.if-at-text.false c.in-default.field-0 c.in-default.ensures)
+pub returns-in_default : goal.returns-in_default
+returns-in_default t c =
+    run_astray c.args.text.now c.args.at c.in_default.field-0 (text_means c.args.before) (map text_canon c.args.answers.now) _
+    (item_astray c.args.text.now c.args.at c.if-at-text.false c.in_default.field-0 c.in_default.ensures)
 
-pub grown-by-requires : goal.grown-by-requires
-grown-by-requires t c = (item_next c.args.text.now c.args.at c.if-at-text.false (item_means c.in-Ok.item) c.in-Ok.next c.in-Ok.ensures).sound
+pub grown_by-requires : goal.grown_by-requires
+grown_by-requires t c = (item_next c.args.text.now c.args.at c.if-at-text.false (item_means c.in-Ok.item) c.in-Ok.next c.in-Ok.ensures).sound
 
-pub offset-bounds-answers-used : goal.offset-bounds-answers-used
-offset-bounds-answers-used t c = let u = c.in-Joined.ensures.5 in search rules
+pub offset_bounds-answers-used : goal.offset_bounds-answers-used
+offset_bounds-answers-used t c = let u = c.in-Joined.ensures.5 in search rules
 
-pub slice-bounds-run-count : goal.slice-bounds-run-count
-slice-bounds-run-count t c = let u = c.in-Joined.ensures.4 in simp length_map at u
+pub slice_bounds-run-count : goal.slice_bounds-run-count
+slice_bounds-run-count t c = let u = c.in-Joined.ensures.4 in simp length-map at u
 
-pub slice-bounds-run-start : goal.slice-bounds-run-start
-slice-bounds-run-start t c = let u : c.in-Joined.used ≤ length c.args.answers.now = slice-bounds-run-count t c in search rules
+pub slice_bounds-run-start : goal.slice_bounds-run-start
+slice_bounds-run-start t c = let u : c.in-Joined.used ≤ length c.args.answers.now = slice_bounds-run-count t c in search rules
 
 pub run-requires : goal.run-requires
 run-requires t c =
@@ -44,7 +43,7 @@ pub returns-in-Overflows : goal.returns-in-Overflows
 returns-in-Overflows t c =
     let n = item_next c.args.text.now c.args.at c.if-at-text.false (item_means c.in-Ok.item) c.in-Ok.next c.in-Ok.ensures in
     let o = c.in-Overflows.ensures in
-    run_overflows c.args.text.now c.args.at _ _ n (text_means c.args.before) (map text_canon c.args.answers.now) o.0 o.1 o.2 o.3 _ c.overflow.ensures
+    run_overflows c.args.text.now c.args.at _ _ n (text_means c.args.before) (map text_canon c.args.answers.now) o.0 o.1 o.2 o.3 _ (search rules)
 
 pub returns-in-Joined : goal.returns-in-Joined
 returns-in-Joined t c =
