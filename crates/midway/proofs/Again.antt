@@ -5,11 +5,11 @@ use native.Mathlib.Decide.{ℕ_discrete}
 use Rattle.interfaces.specs.Cells.{ask_limit}
 use Rattle.interfaces.specs.Tasks.{asks, Def}
 use Rattle.interfaces.specs.Traces.{Pair}
-use Rattle.past.specs.Afresh.{In, first, later, State, Finishing, Log, Outcome, gave, fault, values, Steps, finishes, breaks, ninth, circle, reads, descends, sinks}
-use Rattle.past.specs.Past.{Past, Run, found, or_else, result_or, last, stored, state, Report, end, ran, again, idle}
-use Rattle.past.proofs.Lists.{no_some, in_left, in_right, in_both}
+use Rattle.past.specs.Afresh.{In, first, later, State, Finishing, Log, Outcome, gave, values, Steps, finishes, breaks, ninth, circle, reads, descends, sinks}
+use Rattle.past.specs.Past.{Past, Run, found, or_else, result_or, last, stored, state, Report, ran, again, idle}
+use Rattle.past.proofs.Lists.{in_left, in_right, in_both}
 use Rattle.past.proofs.Alone.{none_some, one_def, alike, alone}
-use Rattle.past.proofs.Whole.{found_here, found_past, found_in}
+use Rattle.past.proofs.Whole.{found_past, found_in}
 use Rattle.view.specs.View.{View, asked_in}
 use Rattle.midway.specs.Midway.{Full, Mid}
 use Rattle.midway.proofs.Logs.{found_left, found_skip, on_cells}

@@ -1,18 +1,18 @@
 -- The start of a query, and its end: the workbook shows the past with the query, which is lawful.
-use Rattle.std.proofs.Common.{◌≡◌, ℕ, ◌<◌, Bool, true, false, ◌⊎◌, List, [], sym, refl, ap, ◌∙◌}
+use Rattle.std.proofs.Common.{◌≡◌, ℕ, ◌<◌, Bool, ◌⊎◌, List, [], sym, refl, ap, ◌∙◌}
 use mathlib.Core.Option.{Option, none, some}
 use Rattle.interfaces.specs.Cells.{cell_count, work_length}
 use Rattle.interfaces.specs.Refusals.{Said, no as refusal}
 use Rattle.interfaces.specs.Tasks.{Def, Verdict}
-use Rattle.past.specs.Afresh.{In, Finishing, Log, Outcome, Afresh}
-use Rattle.past.specs.Past.{Lent, Run, Request, query, refused, queried, Past, ◌▹◌, found, or_else, result_or, defs, last, up_to, traces_of, runs_of, kept, stored, state, Touches, then, Fallen, falls, fell, Cause, never, touched, InDoubt, Report, end}
+use Rattle.past.specs.Afresh.{Finishing, Log, Outcome, Afresh}
+use Rattle.past.specs.Past.{Lent, Run, Request, query, refused, queried, Past, ◌▹◌, found, or_else, result_or, defs, last, up_to, traces_of, runs_of, kept, stored, state, Touches, then, Fallen, falls, fell, Cause, never, touched, InDoubt, end}
 use Rattle.past.specs.Law.{Right, Lawful}
 use Rattle.past.proofs.Whole.{found_in}
 use Rattle.past.proofs.Table.{query_fine, query_refused}
 use Rattle.past.proofs.Since.{up_some, up_none}
 use Rattle.past.proofs.Doubt.{settled_sure}
 use Rattle.view.specs.View.{View, Shows}
-use Rattle.midway.specs.Midway.{Full, Mid}
+use Rattle.midway.specs.Midway.{Mid}
 
 module _ {M : Type 0} (blank : M) (locks : ℕ → Bool) (stands : List ℕ → Verdict M) (depth : ℕ) (same : (v w : M) → Dec (v ≡ w)) (p : Past M) where
   -- at the start nothing has finished

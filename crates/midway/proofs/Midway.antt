@@ -6,11 +6,11 @@ use Rattle.std.proofs.lemmas.Bool.{eq-eqb, ne_eqb}
 use Rattle.interfaces.specs.Cells.{ask_limit}
 use Rattle.interfaces.specs.Tasks.{asks, gives, faults, Def, Verdict}
 use Rattle.interfaces.specs.Traces.{Pair, Trace, runs, keeps, next}
-use Rattle.past.specs.Afresh.{In, first, later, State, Finishing, Log, Layer, engine, language, Outcome, gave, fault, values, Steps, finishes, breaks, ninth, circle, reads, descends, sinks, Afresh, input, worked}
+use Rattle.past.specs.Afresh.{In, first, later, Finishing, Log, Layer, engine, language, Outcome, gave, fault, values, Steps, finishes, breaks, ninth, circle, reads, descends, sinks, Afresh, input, worked}
 use Rattle.past.specs.Past.{Past, Run, changed, cells, found, or_else, result_or, Reaches, defs, last, traces_of, runs_of, kept, stored, state, Cause, never, touched, InDoubt, Fits, Runs, Report}
 use Rattle.past.specs.Law.{Lawful}
-use Rattle.past.proofs.Lists.{no_some, in_left, in_right, in_both, in_one, Ends, ends_one}
-use Rattle.past.proofs.Alone.{alike, alone, none_some, one_def, afresh_alone, ask_give, ask_fail, one_ask}
+use Rattle.past.proofs.Lists.{no_some, in_left, in_right, in_both, in_one, ends_one}
+use Rattle.past.proofs.Alone.{alike, none_some, afresh_alone}
 use Rattle.past.proofs.Whole.{all_whole, found_here, found_past, found_in}
 use Rattle.past.proofs.Cert.{Finished, of, works}
 use Rattle.past.proofs.Elsewhere.{off, own, elsewhere}
@@ -19,7 +19,7 @@ use Rattle.past.proofs.Since.{changed_here, changed_away}
 use Rattle.past.proofs.Doubt.{alive, Settled, settled_good, settled_sure, sure_settled}
 use Rattle.past.proofs.Kept.{source, kept_follows, in_take}
 use Rattle.view.specs.View.{View, asked_in}
-use Rattle.midway.specs.Planning.{Begins, Plans, to_run, to_keep, to_ask}
+use Rattle.midway.specs.Planning.{Plans, to_run, to_keep, to_ask}
 use Rattle.midway.specs.Midway.{Distinct, Full, Ended, Asking, begun, then_asked, Mid, Rightly, Sooner, Ready, Followed, Open, Brought}
 use Rattle.midway.proofs.Logs.{found_left, found_skip, not_found, on_cells, started, whole_full, full_left, full_both}
 use Rattle.midway.proofs.Reports.{report_on, report_run_lem}

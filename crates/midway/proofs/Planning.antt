@@ -1,12 +1,12 @@
 -- The plan that a rebuilder's function gives is what the traces say, newest first.
-use Rattle.std.proofs.Common.{◌≡◌, ℕ, Bool, true, false, cond, eqb, List, [], ◌∷◌, ◌++◌, map, length, sym, refl, ap, ◌∙◌, subst, append-nil, arith}
+use Rattle.std.proofs.Common.{◌≡◌, ℕ, Bool, true, false, List, [], ◌∷◌, ◌++◌, map, length, sym, refl, ap, ◌∙◌, subst, append-nil, arith}
 use mathlib.Core.Option.{Option, none, some}
 use native.Mathlib.Decide.{ℕ_discrete}
 use Rattle.std.proofs.lemmas.Bool.{eq-eqb, ne_eqb}
 use Rattle.interfaces.specs.declared.cell.Cell.{Cell}
 use Rattle.interfaces.specs.declared.step.Plan.{Plan}
 use Rattle.interfaces.specs.declared.step.Plan.TheVariants.{Run, Keep, Next}
-use Rattle.interfaces.specs.Traces.{Pair, Trace, Planned, runs, keeps, next, plan_means, pairs_of, after, kept_to, exact, next_of, onward, plan_on, chosen, plan, plan_for}
+use Rattle.interfaces.specs.Traces.{Pair, Trace, Planned, keeps, next, plan_means, pairs_of, after, exact, onward, chosen, plan, plan_for}
 use Rattle.past.specs.Afresh.{In, first, later}
 use Rattle.past.proofs.Lists.{in_right}
 use Rattle.midway.specs.Planning.{Begins, Plans, to_run, to_keep, to_ask, plain_pair, plain_trace, plain_plan}

@@ -1,6 +1,6 @@
 -- Reports: of longer logs, and of logs with a part that is in them already.
-use Rattle.std.proofs.Common.{◌≡◌, ℕ, ◌⊎◌, List, [], ◌∷◌, ◌++◌, sym, refl, ap, ◌∙◌, subst, inl, inr}
-use mathlib.Core.Option.{Option, none, some}
+use Rattle.std.proofs.Common.{◌≡◌, ℕ, ◌⊎◌, List, [], ◌∷◌, ◌++◌, sym, refl, ◌∙◌, subst, inl, inr}
+use mathlib.Core.Option.{Option, none}
 use native.Mathlib.Decide.{ℕ_discrete}
 use Rattle.past.specs.Afresh.{In, first, later, Finishing, Log}
 use Rattle.past.specs.Past.{Past, Run, found, Cause, Runs, Report, end, ran, again, idle}

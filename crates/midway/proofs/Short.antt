@@ -1,18 +1,18 @@
 -- A report and a path have no more entries than there are cells; a defined cell is not locked.
-use Rattle.std.proofs.Common.{◌≡◌, ℕ, ◌+◌, ◌<◌, ◌≤◌, Bool, true, false, List, [], ◌∷◌, ◌++◌, length, sym, refl, ap, ◌∙◌, arith}
+use Rattle.std.proofs.Common.{◌≡◌, ℕ, ◌+◌, ◌<◌, ◌≤◌, Bool, true, false, List, [], ◌∷◌, length, sym, refl, ap, ◌∙◌, arith}
 use mathlib.Core.Option.{none, some}
 use native.Mathlib.Decide.{ℕ_discrete}
 use Rattle.interfaces.specs.Cells.{cell_count}
 use Rattle.interfaces.specs.Tasks.{Def, Verdict}
 use Rattle.past.specs.Afresh.{In, first, later, Finishing, Log}
-use Rattle.past.specs.Past.{Run, refused, edited, defined, cleared, queried, Past, start, ◌▹◌, changed, defs, state, Cause, never, touched, InDoubt, Report, end, ran, again, idle}
+use Rattle.past.specs.Past.{Run, refused, edited, defined, cleared, queried, Past, start, ◌▹◌, defs, state, Cause, never, touched, InDoubt, Report, end, ran, again, idle}
 use Rattle.past.specs.Law.{locked_define, Acceptable, Right, Lawful}
 use Rattle.past.proofs.Lists.{no_some, free, free_most, free_front}
 use Rattle.past.proofs.Since.{changed_here, changed_away}
 use Rattle.past.proofs.Decided.{bound}
 use Rattle.past.proofs.Total.{below_count}
 use Rattle.view.specs.View.{View}
-use Rattle.midway.specs.Midway.{Full, Mid, Distinct}
+use Rattle.midway.specs.Midway.{Mid, Distinct}
 
 distinct_short : (n : ℕ) (l : List ℕ) → Distinct l → ((y : ℕ) → In y l → y < n) → length l + free n l ≤ n
 distinct_short n [] d k = omega (arith, free_most n [])

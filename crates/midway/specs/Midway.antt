@@ -1,12 +1,12 @@
 -- A query in progress, after the past `p`: what the workbook shows with the log and the report so far, where the
 -- working-out of a cell stands, and what it comes to.
 use Rattle.std.specs.Prelude.{◌≡◌, ℕ, ◌<◌, Bool, true, List, [], ◌∷◌, ◌++◌, length, take}
-use Rattle.std.proofs.Math.Option.{Option, none, some}
+use Rattle.std.proofs.Math.Option.{none, some}
 use Rattle.interfaces.specs.Cells.{ask_limit}
 use Rattle.interfaces.specs.Tasks.{asks, Def}
 use Rattle.interfaces.specs.Traces.{Pair, Trace}
 use Rattle.past.specs.Afresh.{In, State, Finishing, Log, Outcome, gave, values, Steps, Afresh}
-use Rattle.past.specs.Past.{Past, Run, changed, cells, found, or_else, result_or, defs, last, traces_of, runs_of, kept, stored, state, Cause, InDoubt, Fits, Report}
+use Rattle.past.specs.Past.{Past, Run, changed, found, or_else, result_or, defs, last, traces_of, runs_of, kept, stored, state, Cause, InDoubt, Fits, Report}
 use Rattle.view.specs.View.{View, is_defined, asked_in}
 
 -- no cell stands twice

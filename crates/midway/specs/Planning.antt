@@ -1,5 +1,5 @@
 -- The plan for a cell in doubt, in the words of its kept traces.
-use Rattle.std.specs.Prelude.{◌≡◌, ℕ, List, [], ◌∷◌, ◌++◌, map}
+use Rattle.std.specs.Prelude.{◌≡◌, List, ◌∷◌, ◌++◌, map}
 use Rattle.interfaces.specs.Traces.{Pair, Trace, Planned, runs, keeps, next}
 use Rattle.past.specs.Afresh.{In}
 

@@ -76,11 +76,11 @@ module _ {M : Type 0} (blank : M) where
   module _ (p : Past M) (c : ℕ) (lent : Lent) (l : List (Finishing M)) (o : Outcome M) (r : List (Run M)) (x : ℕ) where
     pub stored_some : {g : Finishing M} → found l x ≡ some g → stored blank (p ▹ queried c lent l o r) x ≡ g.result
     unfolding stored result_or
-    stored_some q = rw q refl
+    stored_some q = ap (λ z. result_or z (stored blank p x)) q
 
     pub stored_none : found l x ≡ none → stored blank (p ▹ queried c lent l o r) x ≡ stored blank p x
     unfolding stored result_or
-    stored_none q = rw q refl
+    stored_none q = ap (λ z. result_or z (stored blank p x)) q
 
   pub peel : {x : ℕ} {p : Past M} {k : Call M} {t : Past M} → Still blank t x (p ▹ k)
       → (t ≡ (p ▹ k)) ⊎ (Still blank t x p × ((y : ℕ) → Touches blank p k y → ¬ Reaches (last t) x y))

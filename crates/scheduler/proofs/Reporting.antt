@@ -1,13 +1,13 @@
 -- The report list, and pairs of cells and values.
-use Rattle.std.proofs.Common.{◌≡◌, ℕ, suc, ◌+◌, ◌<◌, ◌≤◌, List, [], ◌∷◌, ◌++◌, map, length, take, drop, set, sym, refl, ap, ◌∙◌, subst, append-nil, arith, length-append, length-set}
+use Rattle.std.proofs.Common.{◌≡◌, ℕ, suc, ◌+◌, ◌<◌, List, [], ◌∷◌, ◌++◌, map, length, take, drop, set, sym, refl, ap, ◌∙◌, subst, append-nil, arith, length-append, length-set}
 use Rattle.std.proofs.lemmas.List.{take_more_set, drop-set-lt}
 use Rattle.interfaces.specs.declared.cell.Cell.{Cell}
 use Rattle.interfaces.specs.Cells.{cell_count, number_of}
-use Rattle.interfaces.specs.Traces.{Pair, pairs_of}
+use Rattle.interfaces.specs.Traces.{pairs_of}
 use Rattle.past.specs.Afresh.{values}
 use Rattle.past.specs.Past.{Run, cells}
 use Rattle.scheduler.specs.declared.answer.Ran.{Ran}
-use Rattle.scheduler.specs.Outcomes.{Entry, ran_entry, run_entry, Listed}
+use Rattle.scheduler.specs.Outcomes.{ran_entry, run_entry, Listed}
 use Rattle.scheduler.proofs.Lengths.{drop_next}
 
 pub map_push : {A B : Type 0} (f : A → B) (xs : List A) (y : A) → map f (xs ++ (y ∷ [])) ≡ map f xs ++ (f y ∷ [])

@@ -1,17 +1,15 @@
 -- How writes to the parts change what the workbook shows.
-use Rattle.std.proofs.Common.{◌≡◌, ℕ, zero, suc, ◌<◌, ◌≤◌, Bool, true, false, cond, List, [], ◌∷◌, ◌++◌, map, length, take, None, Ok, Err, Result, sym, refl, ap, ◌∙◌, subst}
-use mathlib.Core.Option.{Option, none, some}
+use Rattle.std.proofs.Common.{◌≡◌, ℕ, zero, suc, ◌≤◌, Bool, cond, List, [], ◌∷◌, map, length, take, None, Ok, sym, refl, ap, ◌∙◌, subst}
+use mathlib.Core.Option.{Option}
 use native.Mathlib.Decide.{ℕ_discrete}
-use Rattle.std.proofs.lemmas.Bool.{eq-eqb, ne_eqb, le-leb}
+use Rattle.std.proofs.lemmas.Bool.{eq-eqb, le-leb}
 use Rattle.interfaces.specs.declared.cell.Cell.{Cell}
 use Rattle.interfaces.specs.Cells.{ask_limit, number_of, but}
-use Rattle.interfaces.specs.Refusals.{Said}
 use Rattle.interfaces.specs.Tasks.{Def}
-use Rattle.interfaces.specs.Traces.{Pair, Trace, pairs_of, recording, after_recording}
+use Rattle.interfaces.specs.Traces.{Trace, pairs_of, recording, after_recording}
 use Rattle.past.specs.Past.{changed}
 use Rattle.past.proofs.Since.{changed_here, changed_away}
 use Rattle.midway.specs.Planning.{plain_pair, plain_trace}
-use Rattle.midway.specs.Midway.{Ended}
 use Rattle.view.specs.View.{View}
 use Rattle.table.specs.declared.Record.{Record}
 use Rattle.table.specs.Records.{number_in, marked_in, cause_in, asked_in}

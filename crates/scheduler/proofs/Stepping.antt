@@ -1,5 +1,5 @@
 -- Each way through the scheduler, by what the workbook shows before and after.
-use Rattle.std.proofs.Common.{◌≡◌, ℕ, ◌-◌, ◌<◌, ◌≤◌, Bool, true, false, ◌⊎◌, List, [], ◌∷◌, ◌++◌, map, length, take, Some, None, Ok, Err, Option as Maybe, Result, sym, refl, ap, ◌∙◌, subst, inl, inr, append_assoc, arith, length-append}
+use Rattle.std.proofs.Common.{◌≡◌, ℕ, ◌-◌, ◌<◌, ◌≤◌, Bool, true, false, List, [], ◌∷◌, ◌++◌, map, length, take, Some, None, Option as Maybe, Result, sym, refl, ap, ◌∙◌, subst, inl, inr, append_assoc, arith, length-append}
 use mathlib.Core.Option.{Option, none, some}
 use native.Mathlib.Nat.{sub-zero}
 use Rattle.interfaces.specs.declared.cell.Cell.{Cell}
@@ -12,7 +12,7 @@ use Rattle.past.specs.Law.{Lawful}
 use Rattle.past.proofs.Lists.{no_some}
 use Rattle.view.specs.View.{View}
 use Rattle.midway.specs.Planning.{Plans}
-use Rattle.midway.specs.Midway.{Mid, Ready, Followed, Open, Brought, Ended}
+use Rattle.midway.specs.Midway.{Mid, Ready, Brought, Ended}
 use Rattle.midway.proofs.Midway as midway
 use Rattle.midway.proofs.Short.{defined_open, mid_short, path_short}
 use Rattle.table.specs.Records.{number_in}

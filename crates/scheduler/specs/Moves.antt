@@ -1,5 +1,5 @@
 -- What the moves of the scheduler come to.
-use Rattle.std.specs.Prelude.{◌≡◌, ℕ, ◌+◌, ◌<◌, ◌≤◌, Bool, true, false, ◌⊎◌, List, [], ◌∷◌, ◌++◌, map, length, take, Some, None, Ok, Err, Option as Maybe, Result, slice_set}
+use Rattle.std.specs.Prelude.{◌≡◌, ℕ, ◌+◌, ◌<◌, ◌≤◌, Bool, true, false, ◌⊎◌, List, ◌∷◌, ◌++◌, length, take, Some, None, Ok, Err, Option as Maybe, Result, slice_set}
 use Rattle.interfaces.specs.declared.cell.Cell.{Cell}
 use Rattle.interfaces.specs.Cells.{cell_count, ask_limit, number_of}
 use Rattle.interfaces.specs.Tasks.{Act, asks, gives, faults, Def, Verdict}

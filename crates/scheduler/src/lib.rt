@@ -177,13 +177,13 @@ pub fn query<V: Value, S: Store<V>, L: Language<V>, R: Rebuilder<V>>(
     ensures { Comes V.Value.canon V.Value.blank (S.Store.locked parts.old.store) L.Language.stands R.Rebuilder.depth
         (record {
           cell = number_of cell;
-          lent = record { report = length report.entry.now; chain = length chain.old; work = length work.old };
+          lent = record { report = length report.old; chain = length chain.old; work = length work.old };
           parts_before = parts.old;
           parts_after = parts.new;
           view_before = view_of V.Value.canon S.Store.shows S.Store.locked L.Language.means R.Rebuilder.traces parts.old;
           view_after = view_of V.Value.canon S.Store.shows S.Store.locked L.Language.means R.Rebuilder.traces parts.new;
-          report_before = report.entry.now;
-          report_after = report.exit.now;
+          report_before = report.old;
+          report_after = report.new;
           chain_before = chain.old;
           chain_after = chain.new;
           work_before = work.old;

@@ -1,4 +1,4 @@
-use Rattle.std.proofs.Common.{ℕ, ◌+◌, ◌-◌, ◌*◌, Bool, cond}
+use Rattle.std.proofs.Common.{◌+◌, ◌-◌, ◌*◌, cond}
 use Rattle.interfaces.specs.Cells.{cell_count, ask_limit}
 use Rattle.scheduler.proofs.+follow_settle.Given as goal
 

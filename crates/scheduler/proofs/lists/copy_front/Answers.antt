@@ -1,4 +1,4 @@
-use Rattle.std.proofs.Common.{arith, rules}
+use Rattle.std.proofs.Common.{arith}
 use Rattle.scheduler.proofs.Lengths.{copied}
 use Rattle.scheduler.proofs.lists.copy_front.Goals as goal
 

@@ -1,4 +1,4 @@
-use Rattle.std.proofs.Common.{◌≡◌, ℕ, sym, ◌∙◌, arith, rules}
+use Rattle.std.proofs.Common.{◌≡◌, ℕ, sym, ◌∙◌, arith}
 use Rattle.interfaces.specs.Cells.{number_of}
 use Rattle.scheduler.proofs.Lengths.{in_at, not_in}
 use Rattle.scheduler.proofs.lists.holds.Goals as goal
