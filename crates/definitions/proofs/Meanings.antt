@@ -1,10 +1,10 @@
 -- What the calls on memory mean to a language. Assumes nothing.
-use Rattle.std.proofs.Common.{◌≡◌, ℕ, ◌<◌, ◌≤◌, Bool, true, false, cond, eqb, ltb, leb, List, [], ◌∷◌, length, Ok, Err, Result, sym, refl, ap, ◌∙◌, ⊎_elim, arith}
-use mathlib.Core.Option.{Option, none, some}
+use Rattle.std.proofs.Common.{◌≡◌, ℕ, ◌<◌, ◌≤◌, true, false, eqb, ltb, leb, List, [], ◌∷◌, length, Err, sym, ap, ◌∙◌, ⊎_elim, arith}
+use mathlib.Core.Option.{none, some}
 use Rattle.std.proofs.lemmas.Bool.{cases_Bool, cond-true, cond-false, lt-ltb, le-ltb, le-leb, lt-leb, and_from, not_from_false}
 use Rattle.interfaces.specs.Cells.{text_limit, but}
-use Rattle.interfaces.specs.Refusals.{Said, no, no_at}
-use Rattle.interfaces.specs.Tasks.{Def, Verdict, legal, illegal, judged, placing}
+use Rattle.interfaces.specs.Refusals.{no}
+use Rattle.interfaces.specs.Tasks.{Def, Verdict, legal, judged, placing}
 use Rattle.definitions.specs.Memory.{zero_in, can_keep, after_put}
 use Rattle.definitions.specs.Meant.{definition_in, meant}
 

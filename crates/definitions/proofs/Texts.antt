@@ -1,9 +1,9 @@
 -- Texts in memory: bytes before a zero, and what a write and a wipe leave. Assumes nothing.
-use Rattle.std.proofs.Common.{◌≡◌, ℕ, zero, suc, ◌+◌, ◌-◌, ◌*◌, ◌<◌, ◌≤◌, Bool, true, false, cond, not, ◌&&◌, eqb, ltb, leb, ◌⊎◌, List, [], ◌∷◌, ◌++◌, length, get_or, take, drop, replicate, sym, refl, ap, ◌∙◌, inl, inr, ⊎_elim, arith}
+use Rattle.std.proofs.Common.{◌≡◌, ℕ, zero, suc, ◌+◌, ◌-◌, ◌<◌, ◌≤◌, true, false, not, ◌&&◌, eqb, ltb, leb, List, [], ◌∷◌, ◌++◌, length, get_or, take, drop, replicate, sym, refl, ap, ◌∙◌, ⊎_elim, arith}
 use lib.Seq.{paste}
 use Rattle.std.proofs.lemmas.List.{append-nil, append_assoc, drop_more, drop_all, drop-drop, drop_at, drop-take, take_all, take-take, take_more, take-append-le, length-append, length-replicate, length-take-le, length-take, get_or-take, get_or-drop, get_or_past, get_or-replicate, get_or_append_left, get_or-append_right}
-use Rattle.std.proofs.lemmas.List.Edits.{take-paste, drop-paste, length-paste}
-use Rattle.std.proofs.lemmas.Bool.{cases_lt, cases_order, cases_Bool, cond-true, cond-false, cond_both, eq-eqb, ne_eqb, eqb-false, true≢false, ltb-true, leb-true, and_parts, not_true}
+use Rattle.std.proofs.lemmas.List.Edits.{take-paste, drop-paste}
+use Rattle.std.proofs.lemmas.Bool.{cases_lt, cases_order, cases_Bool, cond-true, cond-false, cond_both, eq-eqb, ne_eqb, true≢false, ltb-true, leb-true, and_parts, not-true}
 use Rattle.interfaces.specs.Cells.{text_limit, cell_count, definition_length, but}
 use Rattle.definitions.specs.Memory.{up_to_zero, start_of, bytes_at, text_at, zero_in, can_keep, padded, after_put}
 
@@ -108,7 +108,7 @@ pub held_parts : (text : List ℕ) → can_keep text ≡ true → (0 < length te
 held_parts text h =
     let p = and_parts (ltb 0 (length text)) (leb (length text) text_limit && not (zero_in text)) h in
     let q = and_parts (leb (length text) text_limit) (not (zero_in text)) p.1 in
-    (ltb-true 0 (length text) p.0, leb-true (length text) text_limit q.0, not_true (zero_in text) q.1)
+    (ltb-true 0 (length text) p.0, leb-true (length text) text_limit q.0, not-true (zero_in text) q.1)
 
 -- after a put
 pub text_put : (memory after text : List ℕ) (c : ℕ) → definition_length ≤ length memory → c < cell_count → can_keep text ≡ true

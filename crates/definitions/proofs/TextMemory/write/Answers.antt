@@ -1,5 +1,4 @@
-use Rattle.std.proofs.Common.{◌≡◌, ◌+◌, ◌*◌, ◌<◌, length, get_or, set, sym, refl, ap, ◌∙◌, arith, length-set}
-use lib.Seq.{paste}
+use Rattle.std.proofs.Common.{◌*◌, refl, arith, length-set}
 use Rattle.std.proofs.lemmas.List.Edits.{paste_none, paste_more}
 use Rattle.definitions.specs.Memory.{padded}
 use Rattle.definitions.proofs.Texts.{padded_length, padded_at}
