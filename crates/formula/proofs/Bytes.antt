@@ -1,14 +1,12 @@
 -- What a byte is, and which byte it is then.
-use Rattle.std.proofs.Common.{◌≡◌, ℕ, zero, suc, ◌+◌, ◌-◌, ◌<◌, ◌≤◌, Bool, true, false, cond, eqb, ltb, leb, sym, refl, ap, ◌∙◌, arith}
-use mathlib.Core.Option.{Option, none, some}
+use Rattle.std.proofs.Common.{◌≡◌, ℕ, ◌+◌, ◌<◌, arith}
+use mathlib.Core.Option.{none, some}
 use Rattle.std.proofs.lemmas.Bool.Decides.{nat_tests}
 use Rattle.names.specs.Names.{column_count}
 use Rattle.formula.specs.declared.byte.Operator.{Operator}
-use Rattle.formula.specs.declared.byte.Link.{Link}
-use Rattle.formula.specs.declared.byte.Link.TheVariants.{Weak, Strong, Loose}
-use Rattle.formula.specs.declared.byte.Start.{Start}
-use Rattle.formula.specs.declared.byte.Start.TheVariants.{Negation, Group, Choice, Lookup, Total, Digit, Column, Other}
-use Rattle.formula.specs.Bytes.{link_of, digit_of, column_of, start_of, start_digit, start_column}
+use Rattle.formula.specs.declared.byte.Link.TheVariants.{Weak, Strong}
+use Rattle.formula.specs.declared.byte.Start.TheVariants.{Negation, Group, Choice, Lookup, Total, Digit, Column}
+use Rattle.formula.specs.Bytes.{link_of, digit_of, column_of, start_of}
 
 pub digit_at : (d : ℕ) → d < 10 → digit_of (48 + d) ≡ some d
 digit_at d l = grind (arith, nat_tests)

@@ -1,22 +1,19 @@
 -- Where a text goes wrong: every state of the reader can be led to an end, so the byte that it refuses is the first
 -- that no formula has.
-use Rattle.std.proofs.Common.{◌≡◌, ℕ, zero, suc, ◌+◌, ◌-◌, ◌*◌, ◌<◌, ◌≤◌, Bool, true, false, cond, eqb, List, [], ◌∷◌, ◌++◌, length, take, sym, refl, ap, ◌∙◌, ⊎_elim, append_assoc, arith}
+use Rattle.std.proofs.Common.{◌≡◌, ℕ, suc, ◌+◌, ◌-◌, ◌<◌, eqb, List, [], ◌∷◌, ◌++◌, length, take, sym, refl, ap, ◌∙◌, ⊎_elim, append_assoc, arith}
 use mathlib.Core.Option.{Option, none, some}
 use lib.Seq.{take-append-add}
 use Rattle.std.proofs.lemmas.Bool.{cases_order, cond-true, eq-eqb}
-use Rattle.std.proofs.lemmas.List.{append-nil, length-append, take_at, take_all}
+use Rattle.std.proofs.lemmas.List.{length-append, take_at}
 use Rattle.interfaces.specs.Cells.{cell_count}
-use Rattle.interfaces.specs.Tasks.{Def, Verdict, legal, illegal}
-use Rattle.names.specs.Names.{row_count, column_count, name_of}
+use Rattle.interfaces.specs.Tasks.{Def, legal, illegal}
 use Rattle.whole.specs.declared.Whole.{Whole}
 use Rattle.definitions.specs.Longest.{Longest, Begins}
-use Rattle.formula.specs.declared.byte.Operator.{Operator}
-use Rattle.formula.specs.Bytes.{link_of, digit_of, column_of, start_of}
-use Rattle.formula.specs.Grammar.{Tree, number, cell, negated, joined, choice, lookup, total, sum_limit, Formula, Legal, OneReading}
+use Rattle.formula.specs.Grammar.{Tree, number, cell, negated, joined, choice, lookup, total, Formula, Legal, OneReading}
 use Rattle.formula.specs.Meaning.{meaning}
-use Rattle.formula.specs.Reader.{Around, whole, in_group, in_first, in_second, in_third, in_lookup, AtTerm, first_term, after_sum, AtFactor, first_factor, after_product, behind_minus, Held, Use, as_factor, as_first, State, want, have, in_number, want_name, want_row, in_row, due, want_count, due_all, inside, closed, around, hand, shut, named, cell_at, step, finish, end, ended, onward, Reading, reads, fails, run, reading, verdict_of, stands, Right, StandsRight}
+use Rattle.formula.specs.Reader.{Around, whole, in_group, in_first, in_second, in_third, in_lookup, AtTerm, first_term, after_sum, AtFactor, first_factor, after_product, behind_minus, Held, Use, as_factor, as_first, State, want, have, want_name, want_row, in_row, due, want_count, inside, closed, around, hand, shut, named, cell_at, step, finish, end, ended, onward, Reading, reads, fails, run, reading, verdict_of, Right, StandsRight}
 use Rattle.formula.proofs.Runs.{run_step, run_stop, run_end, NoDigit, number_ends, row_ends, count_good, whole_reads}
-use Rattle.formula.proofs.Sound.{BeforeFormula, BeforeTerm, BeforeFactor, BeforeUse, use_factor, use_first, Before, at_want, at_have, at_number, at_name, at_row, at_digit, at_due, at_count, at_first_factor, at_first_term, at_whole, Good, step_good, run_sound}
+use Rattle.formula.proofs.Sound.{Before, at_want, at_have, at_number, at_name, at_row, at_digit, at_due, at_count, at_first_factor, at_first_term, at_whole, Good, step_good, run_sound}
 
 -- a state can be led to an end
 record Ends (at : ℕ) (st : State) : Type 0 where

@@ -1,21 +1,18 @@
 -- The reader takes every formula, and holds its tree then.
-use Rattle.std.proofs.Common.{◌≡◌, ℕ, zero, suc, ◌+◌, ◌-◌, ◌*◌, ◌/◌, ◌%◌, ◌^◌, ◌<◌, ◌≤◌, Bool, true, false, cond, eqb, ltb, leb, List, [], ◌∷◌, ◌++◌, length, decimal, sym, refl, ap, ◌∙◌, append_assoc, arith}
+use Rattle.std.proofs.Common.{◌≡◌, ℕ, zero, suc, ◌+◌, ◌*◌, ◌/◌, ◌%◌, ◌^◌, ◌<◌, ◌≤◌, Bool, true, false, cond, eqb, ltb, leb, List, [], ◌∷◌, ◌++◌, length, decimal, refl, ap, ◌∙◌, append_assoc, arith}
 use mathlib.Core.Option.{Option, none, some}
-use Rattle.std.proofs.lemmas.Bool.Decides.{nat_tests}
 use Rattle.std.proofs.lemmas.Bool.{ltb-true, ltb-false, lt-ltb, le-leb, ne_eqb, cond-true, cond-false}
 use Rattle.std.proofs.lemmas.List.{append-nil, length-append}
 use Rattle.std.proofs.lemmas.Fmt.{decimal_by_steps, decimal_digit}
 use Rattle.interfaces.specs.Cells.{cell_count}
-use Rattle.names.specs.Names.{row_count, column_count, row_name, name_of}
+use Rattle.names.specs.Names.{row_count, row_name, name_of}
 use Rattle.whole.specs.Whole.{whole_limit}
 use Rattle.formula.specs.declared.byte.Operator.{Operator}
 use Rattle.formula.specs.declared.byte.Link.{Link}
 use Rattle.formula.specs.declared.byte.Link.TheVariants.{Weak, Strong, Loose}
-use Rattle.formula.specs.declared.byte.Start.{Start}
-use Rattle.formula.specs.declared.byte.Start.TheVariants.{Negation, Group, Choice, Lookup, Total, Digit, Column, Other}
-use Rattle.formula.specs.Bytes.{link_of, digit_of, column_of, start_of}
-use Rattle.formula.specs.Grammar.{Tree, number, cell, negated, joined, choice, lookup, total, sum_limit, Formula, a_term, a_sum, Term, a_factor, a_product, Factor, a_number, a_cell, a_minus, a_group, a_choice, a_lookup, a_total}
-use Rattle.formula.specs.Reader.{Around, whole, in_group, in_first, in_second, in_third, in_lookup, AtTerm, first_term, after_sum, AtFactor, first_factor, after_product, behind_minus, Held, Use, as_factor, as_first, State, want, have, in_number, want_name, want_row, in_row, due, want_count, due_all, inside, closed, around, hand, begin, link, follow, meet, named, after_name, cell_at, more_number, name_begins, row_begins, more_row, counted, step, end, ended, onward, Reading, reads, fails, run}
+use Rattle.formula.specs.Bytes.{link_of, digit_of}
+use Rattle.formula.specs.Grammar.{Tree, number, cell, joined, choice, lookup, total, sum_limit, Formula, a_term, a_sum, Term, a_factor, a_product, Factor, a_number, a_cell, a_minus, a_group, a_choice, a_lookup, a_total}
+use Rattle.formula.specs.Reader.{Around, whole, in_group, in_first, in_second, in_third, in_lookup, AtTerm, first_term, after_sum, AtFactor, first_factor, after_product, behind_minus, Use, as_factor, as_first, State, want, have, in_number, want_name, want_row, in_row, due, want_count, inside, hand, begin, link, named, cell_at, more_number, name_begins, row_begins, more_row, counted, step, end, ended, onward, reads, fails, run}
 use Rattle.formula.proofs.Bytes.{digit_at, column_at_lem, start_digit_lem, start_column_lem, weak_no_digit, strong_no_digit, weak_not_strong}
 
 -- one byte
@@ -161,8 +158,35 @@ pub count_good : (mark c d : ℕ) (w : AtFactor) → 0 < d → d ≤ sum_limit �
 count_good mark c d w l m h = ap (counted mark c w) (digit_at d (omega arith)) ∙
     (cond-true (ltb 0 d) _ _ (lt-ltb 0 d l) ∙ (cond-true (leb d sum_limit) _ _ (le-leb d sum_limit m) ∙ cond-true (leb (c + d) cell_count) _ _ (le-leb (c + d) cell_count h)))
 
--- factors, terms and formulas
+-- formulas, terms and factors
 mutual
+  pub formula_runs : {at : ℕ} {s : List ℕ} {t : Tree} → Formula at s t → (k : Around) (r : List ℕ) → NoDigit r → NoStrong r
+      → run at (inside k) (s ++ r) ≡ run (at + length s) (have (record { tree = t; wait = first_term k })) r
+  formula_runs {at} (a_term f) k r e n = term_runs f (first_term k) r e
+  formula_runs {at} (a_sum {s = s} {s' = s'} {t = t} {t' = t'} b o x f g) k r e n =
+      let a = append_assoc s (b ∷ s') r in
+      let i = formula_runs f k (b ∷ (s' ++ r)) (weak_no_digit b o x) (λ p q. weak_not_strong b o p x q) in
+      let j = run_step (at + length s) (have (record { tree = t; wait = first_term k })) b (s' ++ r) (want (first_factor (after_sum t o (at + length s) k)))
+      (ap (link (at + length s) (record { tree = t; wait = first_term k }) b) x) in
+      let h = term_runs g (after_sum t o (at + length s) k) r e in
+      let m = sum_ends t t' o (at + length s) k (at + length s + 1 + length s') r n in
+      let l = length-append s (b ∷ s') in
+      let p : at + length s + 1 + length s' ≡ at + length (s ++ b ∷ s') = omega arith in
+      cc
+
+  pub term_runs : {at : ℕ} {s : List ℕ} {t : Tree} → Term at s t → (w : AtTerm) (r : List ℕ) → NoDigit r
+      → run at (want (first_factor w)) (s ++ r) ≡ run (at + length s) (have (record { tree = t; wait = w })) r
+  term_runs {at} (a_factor f) w r e = factor_runs f (first_factor w) r e
+  term_runs {at} (a_product {s = s} {s' = s'} {t = t} {t' = t'} b o x f g) w r e =
+      let a = append_assoc s (b ∷ s') r in
+      let i = term_runs f w (b ∷ (s' ++ r)) (strong_no_digit b o x) in
+      let j = run_step (at + length s) (have (record { tree = t; wait = w })) b (s' ++ r) (want (after_product t o (at + length s) w))
+      (ap (link (at + length s) (record { tree = t; wait = w }) b) x) in
+      let k = factor_runs g (after_product t o (at + length s) w) r e in
+      let l = length-append s (b ∷ s') in
+      let p : at + length s + 1 + length s' ≡ at + length (s ++ b ∷ s') = omega arith in
+      cc
+
   pub factor_runs : {at : ℕ} {s : List ℕ} {t : Tree} → Factor at s t → (w : AtFactor) (r : List ℕ) → NoDigit r
       → run at (want w) (s ++ r) ≡ run (at + length s) (have (hand t w)) r
   factor_runs {at} (a_number n l) w r e = number_runs n l at w r e
@@ -227,33 +251,6 @@ mutual
       let j₃ = run_step (y + 1 + 1) (due 41 [] (have (hand (total at c d) w))) 41 r (have (hand (total at c d) w)) refl in
       let g = length-append (name_of c) (44 ∷ (48 + d) ∷ 41 ∷ []) in
       let q : y + 1 + 1 + 1 ≡ at + length (115 ∷ 117 ∷ 109 ∷ 40 ∷ (name_of c ++ 44 ∷ (48 + d) ∷ 41 ∷ [])) = omega arith in
-      cc
-
-  pub term_runs : {at : ℕ} {s : List ℕ} {t : Tree} → Term at s t → (w : AtTerm) (r : List ℕ) → NoDigit r
-      → run at (want (first_factor w)) (s ++ r) ≡ run (at + length s) (have (record { tree = t; wait = w })) r
-  term_runs {at} (a_factor f) w r e = factor_runs f (first_factor w) r e
-  term_runs {at} (a_product {s = s} {s' = s'} {t = t} {t' = t'} b o x f g) w r e =
-      let a = append_assoc s (b ∷ s') r in
-      let i = term_runs f w (b ∷ (s' ++ r)) (strong_no_digit b o x) in
-      let j = run_step (at + length s) (have (record { tree = t; wait = w })) b (s' ++ r) (want (after_product t o (at + length s) w))
-      (ap (link (at + length s) (record { tree = t; wait = w }) b) x) in
-      let k = factor_runs g (after_product t o (at + length s) w) r e in
-      let l = length-append s (b ∷ s') in
-      let p : at + length s + 1 + length s' ≡ at + length (s ++ b ∷ s') = omega arith in
-      cc
-
-  pub formula_runs : {at : ℕ} {s : List ℕ} {t : Tree} → Formula at s t → (k : Around) (r : List ℕ) → NoDigit r → NoStrong r
-      → run at (inside k) (s ++ r) ≡ run (at + length s) (have (record { tree = t; wait = first_term k })) r
-  formula_runs {at} (a_term f) k r e n = term_runs f (first_term k) r e
-  formula_runs {at} (a_sum {s = s} {s' = s'} {t = t} {t' = t'} b o x f g) k r e n =
-      let a = append_assoc s (b ∷ s') r in
-      let i = formula_runs f k (b ∷ (s' ++ r)) (weak_no_digit b o x) (λ p q. weak_not_strong b o p x q) in
-      let j = run_step (at + length s) (have (record { tree = t; wait = first_term k })) b (s' ++ r) (want (first_factor (after_sum t o (at + length s) k)))
-      (ap (link (at + length s) (record { tree = t; wait = first_term k }) b) x) in
-      let h = term_runs g (after_sum t o (at + length s) k) r e in
-      let m = sum_ends t t' o (at + length s) k (at + length s + 1 + length s') r n in
-      let l = length-append s (b ∷ s') in
-      let p : at + length s + 1 + length s' ≡ at + length (s ++ b ∷ s') = omega arith in
       cc
 
 -- a formula is read to its tree

@@ -1,12 +1,12 @@
 -- What the reader holds has been read: each of its states tells the text before it.
-use Rattle.std.proofs.Common.{◌≡◌, ℕ, zero, suc, ◌+◌, ◌-◌, ◌*◌, ◌/◌, ◌%◌, ◌^◌, ◌<◌, ◌≤◌, Bool, true, false, cond, eqb, ltb, leb, List, [], ◌∷◌, ◌++◌, length, codes, decimal, sym, refl, ap, ◌∙◌, append_assoc, arith}
+use Rattle.std.proofs.Common.{◌≡◌, ℕ, ◌+◌, ◌*◌, ◌/◌, ◌%◌, ◌<◌, ◌≤◌, true, false, cond, eqb, ltb, leb, List, [], ◌∷◌, ◌++◌, length, codes, decimal, sym, refl, ap, append_assoc, arith}
 use mathlib.Core.Option.{Option, none, some}
 use Rattle.std.proofs.lemmas.Bool.Decides.{nat_tests}
-use Rattle.std.proofs.lemmas.Bool.{ltb-true, ltb-false, leb-true, eqb-true, eqb-false, cond_both}
+use Rattle.std.proofs.lemmas.Bool.{ltb-true, leb-true, eqb-true, cond_both}
 use Rattle.std.proofs.lemmas.List.{append-nil, length-append}
 use Rattle.std.proofs.lemmas.Fmt.{decimal_step, decimal_digit}
 use Rattle.interfaces.specs.Cells.{cell_count}
-use Rattle.names.specs.Names.{row_count, column_count, row_name, name_of}
+use Rattle.names.specs.Names.{row_count, column_count, name_of}
 use Rattle.whole.specs.Whole.{whole_limit}
 use Rattle.formula.specs.declared.byte.Operator.{Operator}
 use Rattle.formula.specs.declared.byte.Link.{Link}
@@ -15,7 +15,7 @@ use Rattle.formula.specs.declared.byte.Start.{Start}
 use Rattle.formula.specs.declared.byte.Start.TheVariants.{Negation, Group, Choice, Lookup, Total, Digit, Column, Other}
 use Rattle.formula.specs.Bytes.{link_of, digit_of, column_of, start_of}
 use Rattle.formula.specs.Grammar.{Tree, number, cell, negated, joined, choice, lookup, total, sum_limit, Formula, a_term, a_sum, Term, a_factor, a_product, Factor, a_number, a_cell, a_minus, a_group, a_choice, a_lookup, a_total}
-use Rattle.formula.specs.Reader.{Around, whole, in_group, in_first, in_second, in_third, in_lookup, AtTerm, first_term, after_sum, AtFactor, first_factor, after_product, behind_minus, Held, Use, as_factor, as_first, State, want, have, in_number, want_name, want_row, in_row, due, want_count, due_all, inside, closed, around, hand, begin, shut, link, follow, meet, named, after_name, cell_at, more_number, name_begins, row_begins, more_row, counted, step, finish, end_held, end, ended, onward, Reading, reads, fails, run}
+use Rattle.formula.specs.Reader.{Around, whole, in_group, in_first, in_second, in_third, in_lookup, AtTerm, first_term, after_sum, AtFactor, first_factor, after_product, behind_minus, Held, Use, as_factor, as_first, State, want, have, in_number, want_name, want_row, in_row, due, want_count, due_all, inside, closed, around, hand, begin, shut, link, follow, meet, named, after_name, cell_at, more_number, name_begins, row_begins, more_row, counted, step, finish, end_held, end, ended, onward, reads, run}
 use Rattle.formula.proofs.Bytes.{digit_is, column_is, negation_is, group_is, choice_is, lookup_is, total_is, start_digit_is, start_column_is}
 
 factor_same : {at at' : ℕ} {s s' : List ℕ} {t t' : Tree} → at ≡ at' → s ≡ s' → t ≡ t' → Factor at s t → Factor at' s' t'

@@ -1,8 +1,8 @@
 -- Worked figures.
-use Rattle.std.specs.Prelude.{◌≡◌, ℕ, ◌-◌, List, [], ◌∷◌, ℤ, pos, negsuc, neg_ℤ, codes}
+use Rattle.std.specs.Prelude.{◌≡◌, ℕ, ◌-◌, List, [], ◌∷◌, ℤ, pos, neg_ℤ, codes}
 use Rattle.interfaces.specs.Cells.{cell_count}
-use Rattle.interfaces.specs.Tasks.{Act, asks, gives, faults, Def, Verdict, legal, illegal}
-use Rattle.names.specs.Names.{column_count, row_count}
+use Rattle.interfaces.specs.Tasks.{Act, asks, gives, faults, Verdict, legal, illegal}
+use Rattle.names.specs.Names.{row_count}
 use Rattle.whole.specs.declared.Whole.{Whole}
 use Rattle.whole.specs.Whole.{whole_limit}
 use Rattle.formula.specs.Reader.{stands}

@@ -1,6 +1,6 @@
 -- No formula faults with a number of the engine's own. A language states this with a proof, which stands here.
-use Rattle.std.specs.Prelude.{◌≡◌, ℕ, zero, suc, ◌+◌, Bool, true, false, cond, ◌≢◌, List, [], ◌∷◌, ℤ, pos, negsuc, ◌+ℤ◌, ◌-ℤ◌, ◌*ℤ◌, neg_ℤ, nat_lt, refl}
-use Rattle.std.proofs.Common.{sym, ap, ◌∙◌, arith}
+use Rattle.std.specs.Prelude.{◌≡◌, ℕ, zero, suc, ◌+◌, Bool, true, false, cond, ◌≢◌, List, [], ◌∷◌, ℤ, pos, negsuc, ◌+ℤ◌, ◌-ℤ◌, ◌*ℤ◌, neg_ℤ, nat_lt}
+use Rattle.std.proofs.Common.{arith}
 use Rattle.interfaces.specs.Cells.{cell_count}
 use Rattle.interfaces.specs.Tasks.{Act, asks, gives, faults, Own}
 use Rattle.whole.specs.declared.Whole.{Whole}
@@ -8,7 +8,7 @@ use Rattle.whole.specs.Whole.{within_limits, whole_means}
 use Rattle.formula.specs.declared.byte.Operator.{Operator}
 use Rattle.formula.specs.declared.byte.Operator.TheVariants.{Plus, Minus, Times, Over, Modulo}
 use Rattle.formula.specs.Grammar.{Tree, number, cell, negated, joined, choice, lookup, total}
-use Rattle.formula.specs.Meaning.{Outcome, value, stops, and_then, quotient, remainder, held, is_zero, divided, operated, asked, looked_up, totalled, work, act_of, meaning}
+use Rattle.formula.specs.Meaning.{Outcome, value, stops, and_then, quotient, remainder, held, is_zero, divided, operated, asked, looked_up, totalled, work, act_of}
 use Rattle.formula.specs.Reader.{Reading, reads, fails, reading, verdict_of, stands}
 
 -- an outcome that is no fault with 16 or 17

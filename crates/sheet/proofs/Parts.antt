@@ -1,27 +1,24 @@
 -- The parts of a formula, read and worked out.
-use Rattle.std.proofs.Common.{◌≡◌, ℕ, zero, suc, ◌+◌, ◌-◌, ◌*◌, ◌<◌, ◌≤◌, Bool, true, false, cond, eqb, ◌⊎◌, List, [], ◌∷◌, ◌++◌, length, get_or, drop, ℤ, pos, negsuc, nat_abs, sym, refl, ap, ◌∙◌, ⊎_elim, arith}
-use mathlib.Core.Option.{Option, none, some}
-use Rattle.std.proofs.lemmas.Bool.Decides.{nat_tests}
-use Rattle.std.proofs.lemmas.Bool.{cond-false, cond-true, ne_eqb, cases_lt}
-use Rattle.std.proofs.lemmas.List.{drop_more, drop_all, append-nil, get_or_past}
-use Rattle.interfaces.specs.Cells.{cell_count}
+use Rattle.std.proofs.Common.{◌≡◌, ℕ, zero, suc, ◌+◌, ◌<◌, ◌≤◌, Bool, true, false, cond, eqb, List, [], ◌∷◌, length, get_or, drop, ℤ, pos, negsuc, sym, refl, ap, ◌∙◌, ⊎_elim, arith}
+use mathlib.Core.Option.{none}
+use Rattle.std.proofs.lemmas.Bool.{cond-false, ne_eqb, cases_lt}
+use Rattle.std.proofs.lemmas.List.{drop_more, drop_all}
 use Rattle.whole.specs.declared.Whole.{Whole}
 use Rattle.whole.specs.Whole.{whole_means}
 use Rattle.formula.specs.declared.byte.Operator.{Operator}
 use Rattle.formula.specs.declared.byte.Link.{Link}
 use Rattle.formula.specs.declared.byte.Link.TheVariants.{Weak, Strong, Loose}
-use Rattle.formula.specs.declared.byte.Start.{Start}
-use Rattle.formula.specs.declared.byte.Start.TheVariants.{Negation, Group, Choice, Lookup, Total, Digit, Column, Other}
-use Rattle.formula.specs.Bytes.{link_of, digit_of, column_of, start_of}
-use Rattle.formula.specs.Grammar.{Tree, number, cell, negated, joined, choice, lookup, total, sum_limit}
-use Rattle.formula.specs.Meaning.{Outcome, value, and_then, operated, asked, looked_up, totalled, work, is_zero}
-use Rattle.formula.specs.Reader.{Around, whole, in_group, in_first, in_second, in_third, in_lookup, AtTerm, first_term, after_sum, AtFactor, first_factor, after_product, behind_minus, Held, Use, as_factor, as_first, State, want, have, want_name, want_row, due, want_count, due_all, inside, hand, begin, shut, link, named, name_begins, counted, step, finish, end, Reading, reads, fails, run, reading}
+use Rattle.formula.specs.declared.byte.Start.TheVariants.{Negation, Group, Choice, Lookup, Total, Column, Other}
+use Rattle.formula.specs.Bytes.{link_of, column_of, start_of}
+use Rattle.formula.specs.Grammar.{Tree, number, cell, negated, joined, choice, lookup, total}
+use Rattle.formula.specs.Meaning.{and_then, operated, asked, looked_up, totalled, work, is_zero}
+use Rattle.formula.specs.Reader.{Around, whole, in_group, in_first, in_second, in_third, in_lookup, AtTerm, first_term, after_sum, AtFactor, first_factor, after_product, behind_minus, as_factor, as_first, State, want, have, want_name, want_row, due, want_count, due_all, inside, hand, begin, shut, link, name_begins, counted, step, fails, run}
 use Rattle.formula.proofs.Bytes.{start_column_is, column_at_lem, digit_at, negation_is, group_is, choice_is, lookup_is, total_is}
 use Rattle.formula.proofs.Runs.{run_end, run_stop, NoStrong, sum_ends, count_good}
 use Rattle.sheet_parts.specs.declared.flow.Flow.{Flow}
 use Rattle.sheet_parts.specs.declared.flow.Flow.TheVariants.{Going, Stopped}
 use Rattle.sheet_parts.specs.declared.flow.Worked.{Worked}
-use Rattle.sheet_parts.specs.Flows.{outcome_of, outcome_in, go_on, work_from, negation}
+use Rattle.sheet_parts.specs.Flows.{outcome_of, go_on, work_from, negation}
 use Rattle.sheet.specs.Readers.{factor_after, term_start, term_after, formula_after, Took, NoProduct, Closes, TookPart, FailedPart, WholeRead, WholeFailed}
 use Rattle.sheet_parts.specs.Tokens.{run_at, Failed, Met, Missed, Spelled, NumberRead, NameRead, CountRead, NoCount}
 use Rattle.sheet_parts.proofs.Flows.{negated_flow, lookup_flow, joined_flow, then_flow}

@@ -1,30 +1,27 @@
 -- What a held text means, and that a formula has no zero byte, so that memory can hold it.
-use Rattle.std.proofs.Common.{◌≡◌, ℕ, zero, suc, ◌+◌, ◌-◌, ◌*◌, ◌/◌, ◌%◌, ◌^◌, ◌<◌, ◌≤◌, Bool, true, false, cond, eqb, ltb, leb, List, [], ◌∷◌, ◌++◌, map, length, take, drop, ℤ, pos, negsuc, ◌+ℤ◌, ◌-ℤ◌, ◌*ℤ◌, neg_ℤ, nat_abs, codes, decimal, sym, refl, ap, ◌∙◌, arith}
-use mathlib.Core.Option.{Option, none, some}
-use Rattle.std.proofs.lemmas.Bool.Decides.{nat_tests}
-use Rattle.std.proofs.lemmas.Bool.{cond-false, cond-true, ne_eqb, cond_both, leb-true, le-leb}
+use Rattle.std.proofs.Common.{◌≡◌, ℕ, zero, suc, ◌+◌, ◌/◌, ◌%◌, ◌^◌, ◌<◌, Bool, true, false, cond, eqb, ltb, List, [], ◌∷◌, ◌++◌, map, ℤ, pos, negsuc, ◌+ℤ◌, ◌-ℤ◌, ◌*ℤ◌, neg_ℤ, decimal, sym, refl, ap, ◌∙◌, arith}
+use mathlib.Core.Option.{none, some}
+use Rattle.std.proofs.lemmas.Bool.{cond-false, cond-true, ne_eqb, cond_both}
 use Rattle.std.proofs.lemmas.Fmt.{decimal_by_steps}
-use Rattle.interfaces.specs.Cells.{cell_count, text_limit}
-use Rattle.interfaces.specs.Tasks.{Act, asks, gives, faults, Def, Verdict, legal, illegal, step_means, step_of}
+use Rattle.interfaces.specs.Cells.{cell_count}
+use Rattle.interfaces.specs.Tasks.{gives, faults, step_means, step_of}
 use Rattle.interfaces.specs.declared.step.Step.{Step}
-use Rattle.names.specs.Names.{name_of, row_name, row_count}
+use Rattle.names.specs.Names.{name_of, row_count}
 use Rattle.whole.specs.declared.Whole.{Whole}
-use Rattle.whole.specs.Whole.{whole_limit, within_limits, limited, whole_means, whole_canon, whole_blank}
+use Rattle.whole.specs.Whole.{within_limits, limited, whole_means, whole_canon, whole_blank}
 use Rattle.definitions.specs.Memory.{zero_in}
 use Rattle.definitions.specs.Meant.{definition_in, meant}
 use Rattle.formula.specs.declared.byte.Operator.{Operator}
 use Rattle.formula.specs.declared.byte.Operator.TheVariants.{Plus, Minus, Times, Over, Modulo}
 use Rattle.formula.specs.declared.byte.Link.TheVariants.{Weak, Strong}
 use Rattle.formula.specs.Bytes.{link_of}
-use Rattle.formula.specs.Grammar.{Tree, number, cell, negated, joined, choice, lookup, total, sum_limit, Formula, a_term, a_sum, Term, a_factor, a_product, Factor, a_number, a_cell, a_minus, a_group, a_choice, a_lookup, a_total}
+use Rattle.formula.specs.Grammar.{Tree, number, cell, negated, joined, choice, lookup, total, Formula, a_term, a_sum, Term, a_factor, a_product, Factor, a_number, a_cell, a_minus, a_group, a_choice, a_lookup, a_total}
 use Rattle.formula.specs.Meaning.{Outcome, value, stops, and_then, held, is_zero, divided, quotient, remainder, operated, asked, looked_up, totalled, work, act_of, meaning}
-use Rattle.formula.specs.Reader.{Reading, reads, fails, reading, verdict_of, stands, Right, run}
-use Rattle.formula.proofs.Places.{stands_right_lem, reading_legal}
-use Rattle.formula.proofs.Runs.{run_end}
-use Rattle.sheet_parts.specs.declared.flow.Flow.{Flow}
+use Rattle.formula.specs.Reader.{reads, fails, reading, verdict_of, stands, run}
+use Rattle.formula.proofs.Places.{reading_legal}
 use Rattle.sheet_parts.specs.declared.flow.Flow.TheVariants.{Going, Stopped}
 use Rattle.sheet_parts.specs.declared.flow.Worked.{Worked}
-use Rattle.sheet_parts.specs.Flows.{outcome_of, outcome_in, go_on, work_from}
+use Rattle.sheet_parts.specs.Flows.{outcome_of, outcome_in}
 use Rattle.sheet.specs.Readers.{WholeRead, WholeFailed}
 
 -- an answer counts by its normal form

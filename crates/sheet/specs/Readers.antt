@@ -1,13 +1,13 @@
 -- What the reading functions have read, in the words of the reader of formulas.
 use Rattle.std.specs.Prelude.{◌≡◌, ℕ, ◌<◌, ◌≤◌, List, length, ◌≢◌, slice_index}
-use Rattle.std.proofs.Math.Option.{Option, none, some}
+use Rattle.std.proofs.Math.Option.{none, some}
 use Rattle.whole.specs.declared.Whole.{Whole}
 use Rattle.formula.specs.declared.byte.Operator.{Operator}
 use Rattle.formula.specs.declared.byte.Link.TheVariants.{Strong}
 use Rattle.formula.specs.Bytes.{link_of}
 use Rattle.formula.specs.Grammar.{Tree}
 use Rattle.formula.specs.Meaning.{work}
-use Rattle.formula.specs.Reader.{Around, AtTerm, first_term, AtFactor, first_factor, State, want, have, inside, hand, shut, finish, Reading, reads, fails, reading}
+use Rattle.formula.specs.Reader.{Around, AtTerm, first_term, AtFactor, first_factor, State, want, have, inside, hand, shut, finish, reads, fails, reading}
 use Rattle.sheet_parts.specs.declared.flow.Flow.{Flow}
 use Rattle.sheet_parts.specs.declared.flow.Worked.{Worked}
 use Rattle.sheet_parts.specs.Flows.{outcome_of, work_from}

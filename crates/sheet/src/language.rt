@@ -56,7 +56,7 @@ fn step_of(text: &[u8], answers: &[Whole]) -> Step<Whole>
             Flow::Going(_) => Step::Give(got.value),
             Flow::Stopped(step) => step,
         },
-        Err(_) => Step::Give(<Whole as interfaces::value::Value>::blank_value()),
+        Err(_) => Step::Give(Whole::blank_value()),
     }
 }
 

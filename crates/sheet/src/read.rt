@@ -16,6 +16,7 @@ const COMMA: u8 = b',';
 const CLOSE: u8 = b')';
 
 // Terms joined by `+` and `-`.
+#[tactic(auto, using(crate::proofs::Parts::weak_within))]
 #[cycle(choice_factor_formula_lookup_part_term)]
 fn formula(text: &[u8], at: usize, answers: &[Whole], from: Flow) -> Result<(Worked, usize), usize>
     requires { (at ≤ length text.now) × (length text.now ≤ text_limit) }

@@ -1,19 +1,17 @@
 -- The work on a formula, step by step.
-use Rattle.std.proofs.Common.{◌≡◌, ℕ, zero, suc, ◌+◌, ◌-◌, ◌*◌, ◌^◌, ◌<◌, ◌≤◌, Bool, true, false, cond, List, [], ◌∷◌, length, drop, ℤ, pos, negsuc, ◌+ℤ◌, ◌-ℤ◌, ◌*ℤ◌, neg_ℤ, nat_abs, sym, refl, ap, ◌∙◌, mul-le-mul, arith, w64, SFits}
+use Rattle.std.proofs.Common.{◌≡◌, ℕ, zero, suc, ◌+◌, ◌-◌, ◌*◌, ◌<◌, ◌≤◌, Bool, true, false, cond, List, ◌∷◌, length, drop, ℤ, pos, negsuc, ◌+ℤ◌, ◌*ℤ◌, neg_ℤ, nat_abs, refl, ap, ◌∙◌, mul-le-mul, arith, w64, SFits}
 use lib.Signed.{mag}
 use Rattle.std.proofs.lemmas.List.{drop_all}
 use Rattle.std.proofs.lemmas.Bool.{leb-true}
 use Rattle.std.proofs.lemmas.Int.{ints}
 use Rattle.interfaces.specs.declared.cell.Cell.{Cell}
-use Rattle.interfaces.specs.declared.step.Step.{Step}
-use Rattle.interfaces.specs.declared.step.Step.TheVariants.{Ask, Give, Fault}
+use Rattle.interfaces.specs.declared.step.Step.TheVariants.{Ask}
 use Rattle.interfaces.specs.Cells.{number_of}
-use Rattle.interfaces.specs.Tasks.{Act, asks, gives, faults, step_means}
 use Rattle.whole.specs.declared.Whole.{Whole}
-use Rattle.whole.specs.Whole.{whole_limit, within_limits, whole_means, whole_canon}
+use Rattle.whole.specs.Whole.{whole_limit, within_limits, whole_means}
 use Rattle.formula.specs.declared.byte.Operator.{Operator}
-use Rattle.formula.specs.Grammar.{Tree, number, cell, negated, joined, choice, lookup, total}
-use Rattle.formula.specs.Meaning.{Outcome, value, stops, and_then, operated, asked, looked_up, totalled, work, is_zero}
+use Rattle.formula.specs.Grammar.{Tree, negated, joined, lookup}
+use Rattle.formula.specs.Meaning.{Outcome, value, and_then, operated, asked, looked_up, totalled, work}
 use Rattle.sheet_parts.specs.declared.flow.Flow.{Flow}
 use Rattle.sheet_parts.specs.declared.flow.Flow.TheVariants.{Going, Stopped}
 use Rattle.sheet_parts.specs.declared.flow.Worked.{Worked}

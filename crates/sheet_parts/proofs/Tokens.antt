@@ -1,22 +1,21 @@
 -- Steps of the reader at the places of a text.
-use Rattle.std.proofs.Common.{◌≡◌, ℕ, zero, suc, ◌+◌, ◌-◌, ◌*◌, ◌/◌, ◌%◌, ◌<◌, ◌≤◌, Bool, true, false, cond, eqb, ltb, leb, ◌⊎◌, List, [], ◌∷◌, ◌++◌, length, get_or, take, drop, sym, refl, ap, ◌∙◌, ⊎_elim, append_assoc, arith}
+use Rattle.std.proofs.Common.{◌≡◌, ℕ, zero, suc, ◌+◌, ◌*◌, ◌/◌, ◌%◌, ◌<◌, ◌≤◌, false, eqb, leb, List, [], ◌∷◌, ◌++◌, length, get_or, drop, sym, refl, ap, ◌∙◌, ⊎_elim, arith}
 use mathlib.Core.Option.{Option, none, some}
 use Rattle.std.proofs.lemmas.Bool.Decides.{nat_tests}
-use Rattle.std.proofs.lemmas.Bool.{cases_lt, cases_eq, cond-true, cond-false, ne_eqb, eq-eqb, lt-leb, le-leb, le-ltb}
+use Rattle.std.proofs.lemmas.Bool.{cases_lt, cond-true, cond-false, ne_eqb, eq-eqb, lt-leb, le-leb}
 use Rattle.std.proofs.lemmas.List.{drop_more, drop_all, get_or_past, length-drop, length-append}
 use Rattle.interfaces.specs.Cells.{cell_count}
 use Rattle.names.specs.Names.{row_count, column_count, row_name, name_of, NameAt, NoNameAt}
 use Rattle.whole.specs.Whole.{whole_limit}
-use Rattle.formula.specs.declared.byte.Link.{Link}
-use Rattle.formula.specs.declared.byte.Link.TheVariants.{Weak, Strong, Loose}
+use Rattle.formula.specs.declared.byte.Link.TheVariants.{Loose}
 use Rattle.formula.specs.declared.byte.Start.TheVariants.{Digit, Column}
 use Rattle.formula.specs.Bytes.{link_of, digit_of, column_of, start_of}
-use Rattle.formula.specs.Grammar.{Tree, number, cell, sum_limit}
+use Rattle.formula.specs.Grammar.{Tree, number, cell}
 use Rattle.formula.specs.Reader.{Around, whole, in_group, in_first, in_second, in_third, in_lookup, AtTerm, first_term, after_sum, AtFactor, Held, Use, as_factor, as_first, State, want, have, in_number, want_name, want_row, in_row, due, want_count, due_all, inside, closed, around, hand, begin, shut, link, follow, named, after_name, cell_at, more_number, name_begins, row_begins, more_row, counted, step, end, Reading, reads, fails, run}
-use Rattle.formula.proofs.Bytes.{digit_at, digit_is, column_is, column_at_lem, start_digit_is, start_column_is, start_column_lem}
+use Rattle.formula.proofs.Bytes.{digit_is, column_is, column_at_lem, start_digit_is, start_column_is, start_column_lem}
 use Rattle.formula.proofs.Runs.{run_step, run_stop, run_end, NoDigit, number_ends, row_ends, row_run, cell_is}
 use Rattle.formula.proofs.Sound.{name_is, name_long}
-use Rattle.sheet_parts.specs.Tokens.{run_at, Failed, Spelled, NumberRead, NameRead}
+use Rattle.sheet_parts.specs.Tokens.{run_at, Failed, NumberRead, NameRead}
 
 pub step_at_lem : (text : List ℕ) (at : ℕ) (st next : State) → at < length text → step at st (get_or text at 0) ≡ some next → run_at text at st ≡ run_at text (at + 1) next
 step_at_lem text at st next l e = ap (run at st) (drop_more text at 0 l) ∙ run_step at st (get_or text at 0) (drop (at + 1) text) next e

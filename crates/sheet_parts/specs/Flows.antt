@@ -1,5 +1,5 @@
 -- What the work on a formula means, while the formula is read.
-use Rattle.std.specs.Prelude.{ℕ, List, drop, ℤ, neg_ℤ}
+use Rattle.std.specs.Prelude.{List, drop, ℤ, neg_ℤ}
 use Rattle.interfaces.specs.Tasks.{step_means}
 use Rattle.whole.specs.declared.Whole.{Whole}
 use Rattle.whole.specs.Whole.{whole_canon, whole_means}

@@ -1,6 +1,6 @@
 -- What the smallest parts of a formula are in a text, in the words of the reader of formulas.
 use Rattle.std.specs.Prelude.{◌≡◌, ℕ, ◌+◌, ◌<◌, ◌≤◌, List, length, drop, slice_index, slice_index_or}
-use Rattle.std.proofs.Math.Option.{Option, none, some}
+use Rattle.std.proofs.Math.Option.{none, some}
 use Rattle.interfaces.specs.Cells.{cell_count}
 use Rattle.whole.specs.Whole.{whole_limit}
 use Rattle.formula.specs.Bytes.{digit_of}

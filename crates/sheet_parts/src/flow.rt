@@ -40,7 +40,7 @@ fn stopped(step: Step<Whole>) -> Worked
     ensures { result.flow ≡ Flow.Stopped step }
 {
     Worked {
-        value: <Whole as interfaces::value::Value>::blank_value(),
+        value: Whole::blank_value(),
         flow: Flow::Stopped(step),
     }
 }

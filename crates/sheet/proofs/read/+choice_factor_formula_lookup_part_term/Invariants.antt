@@ -1,4 +1,4 @@
-use Rattle.std.proofs.Common.{◌+◌, ◌-◌, ◌*◌, length}
+use Rattle.std.proofs.Common.{◌+◌, ◌-◌, ◌*◌, ◌<◌, length}
 use Rattle.formula.specs.Reader.{inside}
 use Rattle.sheet_parts.specs.declared.flow.Flow.{Flow}
 use Rattle.sheet.specs.Readers.{Took, NoProduct, term_start, term_after, formula_after}
@@ -23,9 +23,11 @@ abbrev pub decreases-part : goal.decreases-part
 decreases-part l = (length l.text.now - l.at) * 5 + 4
 
 abbrev pub invariant-formula-loop-operator : goal.invariant-formula-loop-operator
-invariant-formula-loop-operator l =
-    ((from : Flow) → Took inside formula_after l.text l.at l.answers from l.initial.left l.initial.next → Took inside formula_after l.text l.at l.answers from l.left l.next)
-    × NoProduct l.text l.next
+invariant-formula-loop-operator l = record {
+  more : (from : Flow) → Took inside formula_after l.text l.at l.answers from l.initial.left l.initial.next → Took inside formula_after l.text l.at l.answers from l.left l.next;
+  loose : NoProduct l.text l.next;
+  onward : l.at < l.next;
+}
 
 abbrev pub decreases-formula-loop-operator : goal.decreases-formula-loop-operator
 decreases-formula-loop-operator l = length l.text - l.next

@@ -1,10 +1,8 @@
-use Rattle.std.proofs.Common.{◌≡◌, ℕ, suc, ◌+◌, ◌-◌, ◌*◌, ◌≤◌, get_or, drop, ℤ, pos, ◌+ℤ◌, nat_abs, sym, refl, ap, ◌∙◌, arith, w32, w64, SFits, to_z, of_z}
-use Rattle.std.proofs.lemmas.Int.{to_z-of_z, ints}
+use Rattle.std.proofs.Common.{◌≡◌, ◌+◌, get_or, pos, arith}
+use Rattle.std.proofs.lemmas.Int.{ints}
 use Rattle.std.proofs.lemmas.List.{drop_more}
 use Rattle.std.proofs.lemmas.Bool.Decides.{nat_tests}
 use Rattle.interfaces.specs.Cells.{number_of}
-use Rattle.whole.specs.Whole.{whole_means}
-use Rattle.formula.specs.Meaning.{totalled}
 use Rattle.sheet_parts.proofs.Flows.{total_stop, total_again, means_within}
 use Rattle.sheet_parts.proofs.flow.add_up.Goals as goal
 

@@ -1,11 +1,11 @@
-use Rattle.std.proofs.Common.{◌≡◌, drop, ℤ, ◌-ℤ◌, ◌*ℤ◌, sym, refl, ap, ◌∙◌, arith, w64, SFits, to_z, of_z}
+use Rattle.std.proofs.Common.{◌≡◌, drop, ◌-ℤ◌, ◌*ℤ◌, ap, ◌∙◌, arith, w64, to_z, of_z}
 use Rattle.std.proofs.lemmas.Int.{to_z-of_z, ints}
 use Rattle.formula.specs.Meaning.{held}
 use Rattle.sheet_parts.proofs.Flows.{product_fits}
 use Rattle.sheet_parts.proofs.flow.apply.Goals as goal
 
-pub overflow-mul-x : goal.overflow-mul-x
-overflow-mul-x c =
+pub overflow_mul-x : goal.overflow_mul-x
+overflow_mul-x c =
     let x = to_z-of_z w64 c.args.x c.ranges.x in
     let y = to_z-of_z w64 c.args.y c.ranges.y in
     rw (x, y) (product_fits c.args.x c.args.y c.requires.0 c.requires.1)

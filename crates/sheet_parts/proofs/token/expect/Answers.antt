@@ -2,8 +2,8 @@ use Rattle.std.proofs.Common.{◌<◌, length, refl, arith}
 use Rattle.sheet_parts.proofs.Tokens.{inside_text}
 use Rattle.sheet_parts.proofs.token.expect.Goals as goal
 
-pub overflow-add-result : goal.overflow-add-result
-overflow-add-result c =
+pub overflow_add-result : goal.overflow_add-result
+overflow_add-result c =
     let l : c.args.at < length c.args.text.now = inside_text c.args.text.now c.args.at (λ z. omega arith) in omega arith
 
 pub returns : goal.returns

@@ -8,5 +8,5 @@ returns-in-Some c = name_read c.args.text.now c.args.at _ _ c.requires c.in-Some
 pub returns-in-None : goal.returns-in-None
 returns-in-None c = name_failed c.args.text.now c.args.at c.in-Column.field-0 (sym c.in-Column.ensures) c.in-None.ensures
 
-pub returns-in-default : goal.returns-in-default
-returns-in-default c = no_name c.args.text.now c.args.at c.requires (λ x e. c.in-default.not-Column x (c.start-at.ensures ∙ e))
+pub returns-in_default : goal.returns-in_default
+returns-in_default c = no_name c.args.text.now c.args.at c.requires (λ x e. c.in_default.not-Column x (c.start_at.ensures ∙ e))

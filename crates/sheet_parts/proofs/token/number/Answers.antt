@@ -1,10 +1,10 @@
-use Rattle.std.proofs.Common.{◌≡◌, ℕ, ◌+◌, ◌*◌, ◌<◌, ◌≤◌, length, get_or, sym, refl, ap, ◌∙◌, arith}
+use Rattle.std.proofs.Common.{◌<◌, length, ap, ◌∙◌, arith}
 use Rattle.formula.specs.declared.byte.Start.TheVariants.{Digit}
 use Rattle.sheet_parts.proofs.Tokens.{start_digit_at, zero_read, number_begins, number_goes_on, number_too_large, number_ends_at, digit_within}
 use Rattle.sheet_parts.proofs.token.number.Goals as goal
 
-pub overflow-add-next : goal.overflow-add-next
-overflow-add-next c = let h : c.args.at < length c.args.text.now = (start_digit_at c.args.text.now c.args.at c.args.first c.requires).0 in omega arith
+pub overflow_add-next : goal.overflow_add-next
+overflow_add-next c = let h : c.args.at < length c.args.text.now = (start_digit_at c.args.text.now c.args.at c.args.first c.requires).0 in omega arith
 
 pub returns-then-first-eq-LONE : goal.returns-then-first-eq-LONE
 returns-then-first-eq-LONE c = zero_read c.args.text.now c.args.at (c.requires ∙ ap Digit c.if-first-eq-LONE.true)
@@ -23,8 +23,8 @@ returns-then-n-gt-LIMIT c =
       fits = i.3;
     }
 
-pub overflow-add-next-in-Some : goal.overflow-add-next-in-Some
-overflow-add-next-in-Some c =
+pub overflow_add-next-in-Some : goal.overflow_add-next-in-Some
+overflow_add-next-in-Some c =
     let e = c.in-Some.ensures in
     let l : c.loop-digit.next < length c.args.text.now = digit_within c.args.text.now c.loop-digit.next c.in-Some.digit e.0 in omega arith
 
@@ -41,7 +41,7 @@ loop-digit-preserved c =
 
 pub returns : goal.returns
 returns c =
-    let e = c.in-default.ensures in let i = c.loop-digit.invariant in
+    let e = c.in_default.ensures in let i = c.loop-digit.invariant in
     record {
       runs = λ w. i.0 w ∙ number_ends_at c.args.text.now c.loop-digit.next c.loop-digit.n e w;
       limit = i.1;

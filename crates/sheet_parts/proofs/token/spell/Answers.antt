@@ -1,6 +1,6 @@
-use Rattle.std.proofs.Common.{◌≡◌, ℕ, ◌+◌, ◌*◌, ◌<◌, ◌≤◌, length, get_or, drop, sym, refl, ap, ◌∙◌, arith}
-use Rattle.std.proofs.lemmas.List.{drop_more, drop_all}
-use Rattle.formula.specs.Reader.{State, due_all}
+use Rattle.std.proofs.Common.{◌≡◌, ◌+◌, length, ap, ◌∙◌, arith}
+use Rattle.std.proofs.lemmas.List.{drop_all}
+use Rattle.formula.specs.Reader.{due_all}
 use Rattle.sheet_parts.specs.Tokens.{run_at}
 use Rattle.sheet_parts.proofs.Tokens.{word_short, word_wrong, word_more}
 use Rattle.sheet_parts.proofs.token.spell.Goals as goal

@@ -1,8 +1,7 @@
-use Rattle.std.proofs.Common.{◌≡◌, ◌<◌, ◌≤◌, length, Ok, Err, Result, sym, ap, ◌∙◌, arith, rules, false-eqb}
+use Rattle.std.proofs.Common.{◌≡◌, ◌<◌, ◌≤◌, length, Ok, Err, sym, ap, ◌∙◌, arith, rules, false-eqb}
 use Rattle.interfaces.specs.Cells.{text_limit}
-use Rattle.interfaces.specs.Refusals.{Said, no_at}
-use Rattle.interfaces.specs.Tasks.{Def, placing, judged, answer, after_placing}
-use Rattle.whole.specs.declared.Whole.{Whole}
+use Rattle.interfaces.specs.Refusals.{no_at}
+use Rattle.interfaces.specs.Tasks.{placing, judged, answer, after_placing}
 use Rattle.definitions.specs.Memory.{text_at}
 use Rattle.definitions.specs.Meant.{meant}
 use Rattle.definitions.proofs.Meanings.{holds, placing_judged, meant_put}
@@ -11,8 +10,8 @@ use Rattle.formula.specs.Reader.{stands, verdict_of}
 use Rattle.sheet.proofs.Steps.{no_zero}
 use Rattle.sheet.proofs.language.SheetLanguageWhole.place.Goals as goal
 
-pub overflow-cast-result : goal.overflow-cast-result
-overflow-cast-result c =
+pub overflow_cast-result : goal.overflow_cast-result
+overflow_cast-result c =
     let w = c.in-Err.ensures.fits in
     let l = c.if-text-gt-TEXT.false in
     search rules
@@ -20,7 +19,7 @@ overflow-cast-result c =
 pub returns-in-Err : goal.returns-in-Err
 returns-in-Err c =
     let w = c.in-Err.ensures.is in
-    let e = false-eqb _ _ c.if-is-empty.ensures in
+    let e = false-eqb _ _ c.if-is_empty.ensures in
     let l : 0 < length c.args.text.now = omega arith in
     let u : length c.args.text.now ≤ text_limit = c.if-text-gt-TEXT.false in
     let p : placing stands c.args.text.now ≡ Err (no_at 6 c.in-Err.place) = placing_judged stands c.args.text.now l u ∙ ap judged (ap verdict_of w) in
@@ -31,8 +30,8 @@ returns-in-Err c =
 
 pub returns : goal.returns
 returns c =
-    let r = c.in-default.ensures in
-    let e = false-eqb _ _ c.if-is-empty.ensures in
+    let r = c.in_default.ensures in
+    let e = false-eqb _ _ c.if-is_empty.ensures in
     let l : 0 < length c.args.text.now = omega arith in
     let u : length c.args.text.now ≤ text_limit = c.if-text-gt-TEXT.false in
     let p : placing stands c.args.text.now ≡ Ok (meaning r.tree) = placing_judged stands c.args.text.now l u ∙ ap judged (ap verdict_of r.is) in
