@@ -1,5 +1,5 @@
 -- One write after another over the front of a buffer. Assumes nothing.
-use Rattle.std.proofs.Common.{◌≡◌, ℕ, ◌+◌, ◌-◌, ◌<◌, ◌≤◌, true, false, cond, List, [], ◌∷◌, ◌++◌, length, get_or, take, drop, replicate, Ok, Err, Result, sym, refl, ap, ◌∙◌, arith, length-append, length-drop}
+use Rattle.std.proofs.Common.{◌≡◌, ℕ, ◌+◌, ◌<◌, ◌≤◌, List, [], ◌∷◌, ◌++◌, length, get_or, take, drop, Ok, Err, Result, sym, refl, ap, ◌∙◌, arith, length-append, length-drop}
 use lib.Seq.{paste}
 use Rattle.std.proofs.lemmas.List.{take_at, drop-drop, drop_at, take_all, take_more, take-append-drop, append-nil, append_assoc}
 use Rattle.std.specs.List.{flat_map}

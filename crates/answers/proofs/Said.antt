@@ -1,5 +1,5 @@
 -- Answer lines from their pieces, and how long they are. Assumes nothing.
-use Rattle.std.proofs.Common.{◌≡◌, ℕ, ◌+◌, ◌^◌, ◌<◌, ◌≤◌, min, List, [], ◌∷◌, ◌++◌, length, take, Some, None, codes, decimal, Result, sym, refl, ap, ◌∙◌, arith, length-append}
+use Rattle.std.proofs.Common.{◌≡◌, ℕ, ◌<◌, ◌≤◌, List, [], ◌∷◌, ◌++◌, length, Some, None, codes, decimal, arith, length-append}
 use Rattle.std.proofs.lemmas.Fmt.{length-decimal-le}
 use Rattle.std.proofs.lemmas.List.{length-take}
 use Rattle.interfaces.specs.declared.written.Written.{Written}
@@ -8,7 +8,6 @@ use Rattle.interfaces.specs.Refusals.{Said, no, no_at, said_number, said_place}
 use Rattle.names.specs.Names.{name_of}
 use Rattle.names.proofs.Standing.{name_length}
 use Rattle.answers.specs.Answers.{refusal_line, value_line}
-use Rattle.answers.specs.Fronts.{line_answer, line_left}
 
 -- a refusal by its number and place
 pub said_at : (s : Said) (n p : ℕ) → n ≡ said_number s → Some p ≡ said_place s → s ≡ no_at n p

@@ -1,5 +1,5 @@
 -- A line written over the front of a buffer.
-use Rattle.std.specs.Prelude.{◌≡◌, ℕ, ◌+◌, ◌<◌, ◌≤◌, Bool, cond, List, [], ◌∷◌, ◌++◌, length, drop, replicate, Ok, Err, Result, nat_le}
+use Rattle.std.specs.Prelude.{◌≡◌, ℕ, ◌≤◌, cond, List, ◌++◌, length, drop, replicate, Ok, Err, Result, nat_le}
 use Rattle.interfaces.specs.Refusals.{Said, no}
 
 -- zeros in every place

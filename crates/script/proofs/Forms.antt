@@ -1,12 +1,11 @@
 -- The forms of lines: what stands behind a word, and that a line has one reading. Assumes nothing.
-use Rattle.std.proofs.Common.{◌≡◌, ℕ, suc, ◌+◌, ◌-◌, ◌<◌, ◌≤◌, List, [], ◌∷◌, ◌++◌, length, get_or, take, drop, codes, sym, refl, ap, ◌∙◌, ⊎_elim, arith}
-use Rattle.std.proofs.lemmas.List.{append_cancel_left, append-nil, drop_more, drop_at, length-append}
+use Rattle.std.proofs.Common.{◌≡◌, ℕ, ◌+◌, ◌<◌, ◌≤◌, List, [], ◌∷◌, ◌++◌, length, get_or, drop, codes, sym, refl, ap, ◌∙◌, ⊎_elim, arith}
+use Rattle.std.proofs.lemmas.List.{append_cancel_left, drop_more}
 use Rattle.std.proofs.lemmas.Bool.{cases_lt}
 use Rattle.interfaces.specs.Cells.{cell_count}
-use Rattle.interfaces.specs.Refusals.{Said, no}
 use Rattle.names.specs.Names.{name_of, NameAt}
 use Rattle.names.proofs.Standing.{name_ends}
-use Rattle.script.specs.Lines.{line_limit, Request, sets, gets, Reads, set, get, Unread, long, unknown}
+use Rattle.script.specs.Lines.{Request, sets, gets, Reads, set, get}
 
 -- one byte
 pub alone : (bytes : List ℕ) (x : ℕ) → length bytes ≡ 1 → get_or bytes 0 0 ≡ x → bytes ≡ x ∷ []

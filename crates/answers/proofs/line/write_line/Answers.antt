@@ -1,8 +1,8 @@
-use Rattle.std.proofs.Common.{◌≡◌, ℕ, ◌+◌, ◌<◌, ◌≤◌, List, [], ◌++◌, length, take, replicate, Ok, Err, sym, refl, ap, ◌∙◌, arith, Bor, rules}
+use Rattle.std.proofs.Common.{◌≡◌, ℕ, ◌+◌, ◌<◌, List, [], length, replicate, Err, refl, ap, ◌∙◌, arith, Bor, rules}
 use Rattle.std.specs.List.{flat_map}
 use Rattle.std.proofs.lemmas.Result.{err_from_is_err_and}
 use Rattle.interfaces.specs.Refusals.{said}
-use Rattle.answers.specs.Fronts.{Wrote, line_answer, line_left}
+use Rattle.answers.specs.Fronts.{line_left}
 use Rattle.answers.proofs.Lines.{wrote_none, joined_step, joined_within, joined_all, line_done, line_broken, wrote_length}
 use Rattle.answers.proofs.line.write_line.Goals as goal
 
@@ -16,15 +16,15 @@ nothing = record { ref_ptr = (0, 0); now = [] }
 pub loop-piece-preserved : goal.loop-piece-preserved
 unfolding nothing
 loop-piece-preserved c =
-    let w = c.in-ok-push.ensures.put _ _ c.loop-piece.invariant.0 in
-    let n = c.in-ok-push.ensures.lent in let m = c.loop-piece.invariant.1 in
+    let w = c.in_ok-push.ensures.put _ _ c.loop-piece.invariant.0 in
+    let n = c.in_ok-push.ensures.lent in let m = c.loop-piece.invariant.1 in
     (rw (joined_step (λ x. x.now) c.args.pieces.now c.loop-piece.piece-index nothing c.loop-piece-test.true) w, cc)
 
-pub returns-in-err-push : goal.returns-in-err-push
+pub returns-in_err-push : goal.returns-in_err-push
 unfolding nothing
-returns-in-err-push c =
-    let p = err_from_is_err_and c.from-residual.result c.from-residual.ensures.1 in
-    let f = c.in-err-push.ensures.put _ _ c.loop-piece.invariant.0 in
+returns-in_err-push c =
+    let p = err_from_is_err_and c.from_residual.result c.from_residual.ensures.1 in
+    let f = c.in_err-push.ensures.put _ _ c.loop-piece.invariant.0 in
     let o = ap length c.new-line.ensures.none.holds in
     let j = ap length (joined_step (λ x. x.now) c.args.pieces.now c.loop-piece.piece-index nothing c.loop-piece-test.true) in
     let k = joined_within (λ x. x.now) c.args.pieces.now (c.loop-piece.piece-index + 1) in

@@ -6,4 +6,4 @@ use Rattle.answers.proofs.line.write_line.Given as goal
 abbrev pub invariant-loop-piece : goal.invariant-loop-piece
 invariant-loop-piece l =
     Wrote (flat_map (λ x. x.now) (take l.piece-index l.pieces)) l.initial.line.bytes.now l.line.bytes.now l.line.len
-    × (l.line.bytes.name ≡ l.initial.line.bytes.name)
+    × (l.line.bytes.ghost_name ≡ l.initial.line.bytes.ghost_name)

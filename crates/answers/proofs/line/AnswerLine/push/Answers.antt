@@ -1,4 +1,4 @@
-use Rattle.std.proofs.Common.{◌≡◌, ◌+◌, ◌-◌, ◌<◌, ◌≤◌, length, refl, arith, rules}
+use Rattle.std.proofs.Common.{◌≡◌, ◌+◌, ◌-◌, ◌≤◌, length, refl, arith}
 use Rattle.std.proofs.lemmas.Slice.{put_mid-paste}
 use Rattle.answers.proofs.Lines.{wrote_more, wrote_full, wrote_length}
 use Rattle.answers.proofs.line.AnswerLine.push.Goals as goal
@@ -16,5 +16,5 @@ returns c = record {
       let l : c.args.self.now.len + length c.args.more.now ≤ length c.args.self.now.bytes.now = omega (arith, c.if-more-room.false, c.if-start-room.false) in
       let k : length c.args.more.now ≡ c.args.self.now.len + length c.args.more.now - c.args.self.now.len = omega arith in
       wrote_more c.args.more.now _ _ w l refl
-      (put_mid-paste c.args.self.now.len _ c.args.self.now.bytes.now c.copy-from-slice.new.self c.args.more.now (length c.args.more.now) c.copy-from-slice.ensures.after k refl);
+      (put_mid-paste c.args.self.now.len _ c.args.self.now.bytes.now c.copy_from_slice.new.self c.args.more.now (length c.args.more.now) c.copy_from_slice.ensures.after k refl);
 }
