@@ -1,17 +1,15 @@
--- Records of texts: their bytes, the record of given bytes, and what a sound one means. Assumes nothing of a record.
-use Rattle.std.specs.Prelude.{◌≡◌, ℕ, zero, suc, ◌+◌, ◌-◌, ◌^◌, ◌<◌, ◌≤◌, Bool, true, false, cond, ◌&&◌, leb, List, [], ◌++◌, length, take, drop, replicate, Some, None, Decides, ◌≢◌, nat_le, refl}
+-- Records of texts: their bytes, what a sound one means, and what is packed from a text and more. Assumes nothing of a record.
+use Rattle.std.specs.Prelude.{◌≡◌, ℕ, ◌+◌, ◌-◌, ◌<◌, ◌≤◌, Bool, true, false, cond, ◌&&◌, leb, List, [], ◌++◌, length, take, drop, replicate, Some, None, ◌≢◌, nat_le, refl}
 use Rattle.std.proofs.Common.{sym, ◌∙◌, arith, length-append, length-take, length-drop}
 use Rattle.std.proofs.Math.Path.{ap}
-use Rattle.std.specs.List.{AllByRecursion as All}
-use Rattle.std.proofs.ByRecursion.{All-append, All-take, All-drop, All-weaker, Decides-by_and}
-use Rattle.std.proofs.lemmas.List.{append_assoc, take-append-drop, drop-drop, take_all, length-take-le, length-replicate}
-use Rattle.std.proofs.lemmas.Bool.Decides.{nat_tests, Decides-and, Decides-ltb}
+use Rattle.std.proofs.lemmas.List.{take-append-drop, take_all, length-take-le}
+use Rattle.std.proofs.lemmas.Bool.Decides.{nat_tests}
 use Rattle.interfaces.specs.Printing.{padding}
-use Rattle.text.specs.Text.{IsPrintable, printable_byte, every, printable_bytes, only_zeros, bytes_of, word_bytes, word_of, text_bytes, sound_text, text_blank, text_canon, text_means, text_packed, text_of, text_extended, Extends, Fitting, TextForm}
+use Rattle.text.specs.Text.{printable_bytes, only_zeros, bytes_of, text_bytes, sound_text, text_blank, text_canon, text_means, text_packed, text_of, text_extended}
 use Rattle.text.specs.declared.Text.{Text}
-use Rattle.text.specs.Every.{zeros_from_all, all_zeros, every_append}
-use Rattle.text.specs.Words.{word_of_bytes_of, bytes_of_word_of, word_of_lt}
-use Rattle.interfaces.proofs.Zeros.{take_padding, drop_padding, front_padding}
+use Rattle.text.specs.Every.{zeros_from_all}
+use Rattle.text.specs.Words.{word_of_bytes_of}
+use Rattle.interfaces.proofs.Zeros.{front_padding}
 
 pub length_text_bytes : (t : Text) → length (text_bytes t) ≡ 32
 unfolding bytes_of
@@ -26,67 +24,6 @@ unfolding bytes_of
 packed_bytes t =
     same_fields (text_packed (text_bytes t) t.len) t (word_of_bytes_of 7 t.a) (word_of_bytes_of 7 t.b) (word_of_bytes_of 7 t.c)
     (word_of_bytes_of 7 t.d) refl
-
--- eight of 32 bytes, from a place on
-module _ (bs : List ℕ) (l : length bs ≡ 32) (h : All (λ b. b < 256) bs) (i : ℕ) (le : i + 8 ≤ 32) where
-  eight : length (take 8 (drop i bs)) ≡ 8
-  eight = length-take-le 8 (drop i bs) (simp length-drop (omega arith))
-
-  all_small : All (λ b. b < 256) (take 8 (drop i bs))
-  all_small = All-take (λ b. b < 256) 8 (drop i bs) (All-drop (λ b. b < 256) i bs h)
-
-  word_at : word_bytes (word_of (take 8 (drop i bs))) ≡ take 8 (drop i bs)
-  word_at = bytes_of_word_of 7 (take 8 (drop i bs)) eight all_small
-
-  word_fits : word_of (take 8 (drop i bs)) < 2 ^ 64
-  word_fits = word_of_lt (take 8 (drop i bs)) eight all_small
-
--- bytes are those of the record that is packed from them
-pieces : (bs : List ℕ) → length bs ≡ 32 → take 8 bs ++ take 8 (drop 8 bs) ++ take 8 (drop 16 bs) ++ take 8 (drop 24 bs) ≡ bs
-pieces bs l =
-    let a = take-append-drop 8 bs in
-    let b = take-append-drop 8 (drop 8 bs) in
-    let c = take-append-drop 8 (drop 16 bs) in
-    let d = take_all 8 (drop 24 bs) (simp length-drop (omega arith)) in
-    let e = drop-drop 8 8 bs in
-    let f = drop-drop 8 16 bs in
-    let g : take 8 bs ++ (take 8 (drop 8 bs) ++ (take 8 (drop 16 bs) ++ take 8 (drop 24 bs))) ≡ bs = cc in
-    simp append_assoc g
-
-pub bytes_packed : (bs : List ℕ) (n : ℕ) → length bs ≡ 32 → All (λ b. b < 256) bs → text_bytes (text_packed bs n) ≡ bs
-bytes_packed bs n l h =
-    rw (word_at bs l h 0 (omega arith), word_at bs l h 8 (omega arith), word_at bs l h 16 (omega arith), word_at bs l h 24 (omega arith))
-    (pieces bs l)
-
-packed_fits : (bs : List ℕ) (n : ℕ) → length bs ≡ 32 → All (λ b. b < 256) bs → n < 2 ^ 8 → Fitting (text_packed bs n)
-packed_fits bs n l h small =
-    record {
-      a = word_fits bs l h 0 (omega arith);
-      b = word_fits bs l h 8 (omega arith);
-      c = word_fits bs l h 16 (omega arith);
-      d = word_fits bs l h 24 (omega arith);
-      len = small;
-    }
-
--- the tests of bytes, and what they tell
-printable_tells : (b : ℕ) → Decides (printable_byte b) (IsPrintable b)
-printable_tells b = Decides-and (nat_le 32 b) (nat_le b 126) (Decides-ltb 31 b) (grind (arith, nat_tests))
-
-pub all_tells : (bs : List ℕ) → Decides (printable_bytes bs) (All IsPrintable bs)
-all_tells bs = Decides-by_and printable_byte IsPrintable (every printable_byte) printable_tells refl (λ _ _. refl) bs
-
-small_padding : (bs : List ℕ) → All IsPrintable bs → All (λ b. b < 256) (padding bs)
-small_padding bs h =
-    All-append (λ b. b < 256) bs (replicate (32 - length bs) 0)
-    (All-weaker IsPrintable (λ b. b < 256) (λ b p. omega arith) bs h)
-    (zeros (32 - length bs))
-  where
-    zeros : (n : ℕ) → All (λ b. b < 256) (replicate n 0)
-    zeros zero = tt
-    zeros (suc n) = (omega arith, zeros n)
-
-length_padding : (bs : List ℕ) → length bs ≤ 32 → length (padding bs) ≡ 32
-length_padding bs h = simp (length-append, length-replicate) (omega arith)
 
 three : (x y z : Bool) → (x && (y && z)) ≡ true → (x ≡ true) × (y ≡ true) × (z ≡ true)
 three x y z h = grind arith
@@ -181,38 +118,8 @@ canon_is t =
     let f = form t in
     sym (packed_bytes (text_canon t)) ∙ (ap (λ bs. text_packed bs (text_canon t).len) f.padded ∙ ap (text_packed (padding (text_means t))) f.count)
 
--- the record of a text means that text
-pub means_of : (bs : List ℕ) → length bs ≤ 32 → printable_bytes bs ≡ true → text_means (text_of bs) ≡ bs
-means_of bs l h =
-    let e : text_bytes (text_of bs) ≡ padding bs =
-    bytes_packed (padding bs) (length bs) (length_padding bs l) (small_padding bs ((all_tells bs).0 h)) in
-    let p : take (length bs) (text_bytes (text_of bs)) ≡ bs = ap (take (length bs)) e ∙ take_padding bs (length bs) refl in
-    let z : drop (length bs) (text_bytes (text_of bs)) ≡ replicate (32 - length bs) 0 =
-    ap (drop (length bs)) e ∙ drop_padding bs (length bs) refl in
-    let s = sound_from (text_of bs) l (ap printable_bytes p ∙ h) (ap only_zeros z ∙ all_zeros (32 - length bs)) in
-    ap (λ b. cond b (take (length bs) (text_bytes (text_of bs))) []) s ∙ p
-
 pub same_text : (x y : Text) → text_means x ≡ text_means y → text_canon x ≡ text_canon y
 same_text x y e = canon_is x ∙ (ap text_of e ∙ sym (canon_is y))
-
-pub text_form_lem : TextForm
-text_form_lem bs = (
-  λ t e. let f = form t in (rw e at f.short, (all_tells bs).0 (ap printable_bytes (sym e) ∙ f.printable)),
-  λ l h. (text_of bs, packed_fits (padding bs) (length bs) (length_padding bs l) (small_padding bs h) (omega arith), means_of bs l ((all_tells bs).1 h)),
-)
-
--- what a text with bytes behind it means
-pub extends : (t : Text) (bs : List ℕ) → printable_bytes bs ≡ true → Extends (text_means t) bs (text_extended t bs)
-extends t bs h = go (nat_le (length (text_means t) + length bs) 32) refl
-  where
-    go : (b : Bool) → nat_le (length (text_means t) + length bs) 32 ≡ b → Extends (text_means t) bs (cond b (Some (text_of (text_means t ++ bs))) None)
-    go true e =
-        let n : length (text_means t) + length bs ≤ 32 = grind (arith, nat_tests) in (
-          n,
-          means_of (text_means t ++ bs) (simp length-append (omega arith))
-              (every_append printable_byte (text_means t) bs (form t).printable h),
-        )
-    go false e = λ n. grind (arith, nat_tests)
 
 -- bytes that are no text
 pub too_long : (bs : List ℕ) → 32 < length bs → (t : Text) → text_means t ≢ bs

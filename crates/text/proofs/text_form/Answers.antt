@@ -1,5 +1,5 @@
 -- Which bytes are the written form of a text, both ways.
-use Rattle.text.specs.Packing.{text_form_lem}
+use Rattle.text.proofs.Records.{text_form_lem}
 use Rattle.text.proofs.text_form.Goals as goal
 
 pub returns : goal.returns

@@ -1,6 +1,6 @@
 -- No number is written as a sign before digits that are no numeral, or before `0`.
 use Rattle.std.proofs.Common.{◌≡◌, decimal, ap, ◌∙◌, arith}
-use Rattle.whole.specs.Numbers.{no_negative, no_minus_nought}
+use Rattle.whole.proofs.Numerals.{no_negative, no_minus_nought}
 use Rattle.whole.proofs.negative.Goals as goal
 
 pub returns-in_err-n : goal.returns-in_err-n

@@ -1,6 +1,6 @@
 -- A text that begins with the sign is the sign and the bytes behind it.
 use Rattle.std.proofs.Common.{◌≡◌, get_or, arith}
-use Rattle.whole.specs.Numbers.{after_minus}
+use Rattle.whole.proofs.Numerals.{after_minus}
 use Rattle.whole.proofs.number.Goals as goal
 
 pub returns-in-45 : goal.returns-in-45

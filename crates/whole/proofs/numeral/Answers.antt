@@ -2,15 +2,15 @@
 use Rattle.std.proofs.Common.{◌≡◌, sym, ap, ◌∙◌, arith}
 use Rattle.std.specs.Str.Parse.{AllDigits, digits_value}
 use Rattle.std.proofs.lemmas.List.{take_all}
-use Rattle.whole.specs.Numbers.{few, digit_more, too_long, ill_begun, no_digit, too_large, read_numeral}
+use Rattle.whole.proofs.Numerals.{few, digit_more, too_long, ill_begun, no_digit, too_large, read_numeral}
 use Rattle.whole.proofs.numeral.Goals as goal
-use Rattle.whole.proofs.numeral.Goals.{then-digits-gt-MOST-DIGITS-via-then-digits-gt-MOST-DIGITS, then-digits-gt-MOST-DIGITS-via-else-digits-gt-MOST-DIGITS+then-not-well-begun, then-digit-lt-NOUGHT-via-then-digit-lt-NOUGHT, then-digit-lt-NOUGHT-via-else-digit-lt-NOUGHT+then-digit-gt-NINE}
+use Rattle.whole.proofs.numeral.Goals.{then-digits-gt-MOST_DIGITS-via-then-digits-gt-MOST_DIGITS, then-digits-gt-MOST_DIGITS-via-else-digits-gt-MOST_DIGITS+then-not-well_begun, then-digit-lt-NOUGHT-via-then-digit-lt-NOUGHT, then-digit-lt-NOUGHT-via-else-digit-lt-NOUGHT+then-digit-gt-NINE}
 
 pub returns-then-digits-gt-MOST_DIGITS : goal.returns-then-digits-gt-MOST_DIGITS
 returns-then-digits-gt-MOST_DIGITS c =
     elim c.then-digits-gt-MOST_DIGITS.branch [
-      | then-digits-gt-MOST-DIGITS-via-then-digits-gt-MOST-DIGITS w ↦ too_long c.args.digits.now (omega arith)
-      | then-digits-gt-MOST-DIGITS-via-else-digits-gt-MOST-DIGITS+then-not-well-begun w ↦ ill_begun c.args.digits.now (sym w.well_begun.ensures ∙ w.if-not-well_begun.true)
+      | then-digits-gt-MOST_DIGITS-via-then-digits-gt-MOST_DIGITS w ↦ too_long c.args.digits.now (omega arith)
+      | then-digits-gt-MOST_DIGITS-via-else-digits-gt-MOST_DIGITS+then-not-well_begun w ↦ ill_begun c.args.digits.now (sym w.well_begun.ensures ∙ w.if-not-well_begun.true)
     ]
 
 pub returns-then-digit-lt-NOUGHT : goal.returns-then-digit-lt-NOUGHT

@@ -1,5 +1,5 @@
 -- The written form of a number, both ways.
-use Rattle.whole.specs.Numbers.{whole_form_lem}
+use Rattle.whole.proofs.Numerals.{whole_form_lem}
 use Rattle.whole.proofs.whole_form.Goals as goal
 
 pub returns : goal.returns

@@ -1,5 +1,5 @@
 use Rattle.std.proofs.Common.{◌∙◌}
-use Rattle.whole.specs.Numbers.{digits_part}
+use Rattle.whole.proofs.Numerals.{digits_part}
 use Rattle.whole.proofs.write_number.Goals as goal
 
 pub returns : goal.returns

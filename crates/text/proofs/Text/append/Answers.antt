@@ -2,7 +2,8 @@
 use Rattle.std.proofs.Common.{◌≡◌, Option, sym, ap, ◌∙◌, subst}
 use Rattle.text.specs.Text.{text_means, text_extended, text_appended, Extends}
 use Rattle.text.specs.declared.Text.{Text}
-use Rattle.text.specs.Packing.{form, extends}
+use Rattle.text.specs.Packing.{form}
+use Rattle.text.proofs.Records.{extends}
 use Rattle.interfaces.proofs.Zeros.{front_padding}
 use Rattle.text.proofs.Text.append.Goals as goal
 

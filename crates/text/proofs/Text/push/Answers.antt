@@ -2,7 +2,7 @@
 use Rattle.std.proofs.Common.{true, cond, ◌&&◌, [], ◌∷◌, None, Option, sym, ap, ◌∙◌, subst}
 use Rattle.text.specs.Text.{text_means, text_extended, Extends}
 use Rattle.text.specs.declared.Text.{Text}
-use Rattle.text.specs.Packing.{extends}
+use Rattle.text.proofs.Records.{extends}
 use Rattle.text.proofs.Text.push.Goals as goal
 
 pub returns-then-is_printable : goal.returns-then-is_printable

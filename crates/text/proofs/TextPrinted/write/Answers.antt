@@ -8,7 +8,7 @@ pub invariant_of-result : goal.invariant_of-result
 invariant_of-result c =
     let f = c.form-len.ensures in
     let n = c.form-len.result.1 in
-    (omega arith, (ap (drop n) f.bytes ∙ drop_padding (text_means c.args.self.now) n (sym f.count), tt))
+    record { fits = omega arith; padded = ap (drop n) f.bytes ∙ drop_padding (text_means c.args.self.now) n (sym f.count) }
 
 pub returns : goal.returns
 returns c =

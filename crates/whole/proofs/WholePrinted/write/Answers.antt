@@ -4,7 +4,7 @@ use lib.Signed.{lt_z}
 use Rattle.interfaces.specs.Printing.{written_bytes}
 use Rattle.std.specs.Fmt.{signed_decimal}
 use Rattle.std.proofs.lemmas.Int.{to_z-of_z}
-use Rattle.whole.specs.Numbers.{digits_part, signed_below, signed_above}
+use Rattle.whole.proofs.Numerals.{digits_part, signed_below, signed_above}
 use Rattle.whole.proofs.WholePrinted.write.Goals as goal
 use Rattle.whole.proofs.WholePrinted.write.Goals.{then-value-lt-UNSIGNED, else-value-lt-UNSIGNED}
 
