@@ -1,9 +1,9 @@
 -- A name that stands at a place, byte by byte. Assumes nothing.
-use Rattle.std.proofs.Common.{◌≡◌, ℕ, suc, ◌+◌, ◌-◌, ◌*◌, ◌/◌, ◌%◌, ◌<◌, ◌≤◌, Bool, true, false, cond, ltb, ◌⊎◌, List, [], ◌∷◌, ◌++◌, length, get_or, drop, Some, None, sym, refl, ap, ◌∙◌, inl, inr, ⊎_elim, arith}
-use Rattle.std.proofs.lemmas.List.{drop_more, drop_all, length-drop, append-nil, drop-drop}
+use Rattle.std.proofs.Common.{◌≡◌, ℕ, ◌+◌, ◌-◌, ◌*◌, ◌/◌, ◌%◌, ◌<◌, ◌≤◌, ◌⊎◌, List, [], ◌∷◌, ◌++◌, length, drop, Some, None, refl, ap, ◌∙◌, inl, inr, ⊎_elim, arith}
+use Rattle.std.proofs.lemmas.List.{drop_more, length-drop}
 use Rattle.std.proofs.lemmas.Bool.{cases_lt, lt-ltb, le-ltb}
 use Rattle.interfaces.specs.Cells.{cell_count, cell_numbered}
-use Rattle.names.specs.Names.{ByteAt, column_count, row_count, row_name, name_of, NameAt, NoNameAt, OneName}
+use Rattle.names.specs.Names.{ByteAt, column_count, row_count, row_name, name_of, NameAt, OneName}
 
 -- the byte at the place, and what follows
 front : (text : List ℕ) (at x : ℕ) (ys : List ℕ) → drop at text ≡ x ∷ ys → ByteAt text at x × (drop (at + 1) text ≡ ys)

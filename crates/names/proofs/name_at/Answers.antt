@@ -1,5 +1,5 @@
-use Rattle.std.proofs.Common.{◌≡◌, ℕ, ◌+◌, ◌-◌, ◌*◌, ◌/◌, ◌<◌, ◌≤◌, sym, arith}
-use Rattle.names.specs.Names.{row_count, ByteAt, NameAt}
+use Rattle.std.proofs.Common.{◌/◌, ◌<◌, arith}
+use Rattle.names.specs.Names.{row_count}
 use Rattle.names.proofs.Standing.{stands, short_at, long_at, made_number}
 use Rattle.names.proofs.name_at.Goals as goal
 use Rattle.names.proofs.name_at.Goals.{in-Some+else-row-low-le-ROWS, in_default}
@@ -22,7 +22,7 @@ returns-then-row-low-le-ROWS c =
     let k = c.in_ok-column.ensures in let r = c.in_ok-row.ensures in let l = c.in-Some.ensures in
     let p : 0 < c.in_ok-row.row = omega (arith, c.if-row-eq0.false) in
     rw (made_number c.in_ok-cell.cell.0 _ c.in_ok-cell.ensures)
-    (long_at c.args.text.now c.args.at c.in_ok-column.column c.in_ok-row.row c.in-Some.low k.0 p l.0 c.if-row-low-le-ROWS.true k.1 r.1 l.1)
+    (long_at c.args.text.now c.args.at c.in_ok-column.column c.in_ok-row.row c.in-Some.low k.0 p l.0 (omega arith) k.1 r.1 l.1)
 
 pub returns : goal.returns
 returns c =

@@ -1,7 +1,7 @@
-use Rattle.std.proofs.Common.{◌≡◌, List, [], ◌∷◌, ◌++◌, length, drop, sym, ap, ◌∙◌, arith, rules}
+use Rattle.std.proofs.Common.{[], length, sym, ap, ◌∙◌, arith}
 use Rattle.std.proofs.lemmas.List.{append-nil, drop_all}
 use Rattle.interfaces.specs.Cells.{number_of}
-use Rattle.names.specs.Names.{name_of, NameAt}
+use Rattle.names.specs.Names.{name_of}
 use Rattle.names.proofs.read_name.Goals as goal
 
 pub returns-in_err-cell : goal.returns-in_err-cell
