@@ -1,8 +1,8 @@
 -- A script is cut, read and answered in one way only. Assumes nothing.
-use Rattle.std.proofs.Common.{◌≡◌, ℕ, suc, ◌+◌, ◌<◌, ◌≤◌, Bool, true, false, cond, eqb, List, [], ◌∷◌, ◌++◌, length, Ok, Err, codes, Result, sym, refl, ap, ◌∙◌, ⊎_elim, arith, length-append}
+use Rattle.std.proofs.Common.{◌≡◌, ℕ, ◌≤◌, Bool, false, eqb, List, [], ◌∷◌, ◌++◌, length, Result, sym, refl, ap, ◌∙◌, ⊎_elim, arith, length-append}
 use Rattle.std.proofs.lemmas.Bool.{cases_Bool, cond-true, cond-false, both_ways}
-use Rattle.interfaces.specs.Cells.{cell_count, but}
-use Rattle.interfaces.specs.Refusals.{Said, no}
+use Rattle.interfaces.specs.Cells.{but}
+use Rattle.interfaces.specs.Refusals.{Said}
 use Rattle.names.specs.Names.{name_of}
 use Rattle.names.proofs.Standing.{one_name}
 use Rattle.answers.specs.Answers.{ok_line, refusal_line, value_line}
@@ -13,9 +13,8 @@ use Rattle.text.specs.Text.{text_blank, text_means}
 use Rattle.script.specs.declared.lines.Kind.{Kind}
 use Rattle.script.specs.declared.lines.Kind.TheVariants.{Sheet, Text}
 use Rattle.script.specs.declared.lines.Depth.{Depth}
-use Rattle.script.specs.declared.lines.Depth.TheVariants.{Zero, One, Four}
-use Rattle.script.specs.Lines.{script_limit, line_limit, Unbroken, Cut, ended, last, Request, sets, gets, Reads, set, get, Unread, long, unknown, kind_name, depth_name, Opens}
-use Rattle.session.specs.Session.{line_of_answer, Edited, held, unfit, taken, Answered, refused, edited, shown, Session, over, goes, SessionOf, Transcript, long as tooLong, unopened, opened, OneTranscript}
+use Rattle.script.specs.Lines.{line_limit, Unbroken, Cut, ended, last, Request, gets, Reads, set, get, Unread, long, unknown, Opens}
+use Rattle.session.specs.Session.{line_of_answer, Edited, held, unfit, taken, Answered, refused, edited, shown, Session, over, goes, SessionOf, long as tooLong, unopened, opened, OneTranscript}
 use Rattle.script.proofs.Forms.{set_only, get_only, one_set}
 
 -- the first break of the same bytes stands at one place

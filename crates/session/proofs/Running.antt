@@ -1,16 +1,15 @@
 -- Steps of a session. Assumes nothing.
-use Rattle.std.proofs.Common.{◌≡◌, ℕ, suc, ◌+◌, ◌-◌, ◌<◌, ◌≤◌, Bool, true, false, cond, List, [], ◌∷◌, ◌++◌, length, get_or, take, drop, replicate, is_ok, IfOk, Ok, Err, Result, sym, refl, ap, ◌∙◌, subst₂, arith}
+use Rattle.std.proofs.Common.{◌≡◌, ℕ, suc, ◌+◌, ◌<◌, ◌≤◌, Bool, false, cond, List, [], ◌∷◌, ◌++◌, length, get_or, take, drop, replicate, is_ok, IfOk, Ok, Err, Result, sym, refl, ap, ◌∙◌, arith}
 use mathlib.Core.Path.{fun_ext}
-use Rattle.std.proofs.lemmas.List.{drop_more, drop_all, take-append-drop, length-drop, take_all, append-nil, append_assoc, get_or-take, length-take-le, take_rest, take_at, nil_from_length}
+use Rattle.std.proofs.lemmas.List.{drop_more, take-append-drop, append-nil, append_assoc, get_or-take, length-take-le, take_at, nil_from_length}
 use Rattle.std.proofs.lemmas.Bool.{cond-true, cond-false, le-leb}
-use Rattle.std.specs.List.{AllByRecursion as All}
 use Rattle.interfaces.proofs.Tables.{everywhere}
 use Rattle.interfaces.specs.Cells.{but}
 use Rattle.interfaces.specs.Refusals.{Said, no}
 use Rattle.answers.specs.Answers.{value_line}
 use Rattle.answers.specs.Fronts.{line_answer, line_left, over as overFront}
 use Rattle.script.specs.Lines.{line_limit, Unbroken, Cut, ended, last, BreakAt, Reads, gets}
-use Rattle.session.specs.Session.{Edited, held, unfit, taken, Answered, shown, Wrote, Session, over, goes, Transcript}
+use Rattle.session.specs.Session.{Edited, unfit, taken, Answered, shown, Wrote, Session, over, goes, Transcript}
 
 -- bytes without a break, from what stands at each place
 pub unbroken : (bytes : List ℕ) → ((k : ℕ) → k < length bytes → get_or bytes k 0 ≡ 10 → ⊥) → Unbroken bytes

@@ -1,6 +1,6 @@
 -- What a script prints, from its lines. `state` has the value of each cell, `written` the bytes of a value, and
 -- `unread` is the number of the refusal of bytes that are no written value.
-use Rattle.std.specs.Prelude.{◌≡◌, ℕ, ◌<◌, ◌≤◌, Bool, true, false, List, [], ◌∷◌, ◌++◌, length, Ok, Err, Result, ◌≢◌}
+use Rattle.std.specs.Prelude.{◌≡◌, ℕ, ◌<◌, ◌≤◌, Bool, true, false, List, [], ◌++◌, length, Ok, Err, Result, ◌≢◌}
 use Rattle.interfaces.specs.Cells.{but}
 use Rattle.interfaces.specs.Refusals.{Said, no}
 use Rattle.whole.specs.declared.Whole.{Whole}
@@ -12,7 +12,7 @@ use Rattle.answers.specs.Fronts.{line_answer, line_left}
 use Rattle.script.specs.declared.lines.Kind.{Kind}
 use Rattle.script.specs.declared.lines.Kind.TheVariants.{Sheet, Text}
 use Rattle.script.specs.declared.lines.Depth.{Depth}
-use Rattle.script.specs.Lines.{script_limit, line_limit, Cut, Request, sets, gets, Reads, Unread, Opens}
+use Rattle.script.specs.Lines.{script_limit, line_limit, Cut, sets, gets, Reads, Unread, Opens}
 
 -- the most bytes of an answer line
 abbrev pub answer_limit : ℕ

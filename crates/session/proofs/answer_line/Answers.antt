@@ -1,13 +1,12 @@
-use Rattle.std.proofs.Common.{◌≡◌, sym, refl, ap, ◌∙◌}
-use Rattle.interfaces.specs.Cells.{number_of}
+use Rattle.std.proofs.Common.{refl}
 use Rattle.interfaces.specs.Refusals.{said}
 use Rattle.answers.specs.Answers.{refusal_line}
-use Rattle.session.specs.Session.{Answered, refused, Wrote}
+use Rattle.session.specs.Session.{refused}
 use Rattle.session.proofs.answer_line.Goals as goal
 
 pub returns-in-Err : goal.returns-in-Err
 returns-in-Err g c =
-    let w = c.write-refusal.ensures in
+    let w = c.write_refusal.ensures in
     record {
       answered = record { out = refusal_line (said c.in-Err.refusal); answered = refused (said c.in-Err.refusal) c.in-Err.ensures; short = w.short; answer_is = w.answer; left_is = w.left };
       locks = λ k. refl;

@@ -2,4 +2,4 @@ use Rattle.std.proofs.Common.{◌≡◌, replicate, vec_items}
 use Rattle.session.proofs.blanks.Given as goal
 
 abbrev pub invariant-loop-i : goal.invariant-loop-i
-invariant-loop-i g l = vec_items l.values ≡ replicate l.i g.row.P-Value.blank
+invariant-loop-i g l = vec_items l.values ≡ replicate l.i g.P.Value.blank
