@@ -9,7 +9,6 @@ use Rattle.interfaces.specs.Traces.{Pair, Trace}
 use Rattle.past.specs.Afresh.{In, first, later, State, Finishing, Outcome, gave, fault, Afresh}
 use Rattle.past.specs.Past.{Lent, Run, Request, edit, define, clear, query, Call, refused, edited, defined, cleared, queried, request, about, Past, start, ◌▹◌, changed, cells, found, defs, last, up_to, Reaches, directly, beyond, kept, stored, state, Touches, Still, then, since, Fallen, falls, fell, never, touched, InDoubt, Fits, Runs, Report, end, ran, idle, again}
 use Rattle.past.specs.Law.{not_in_language, no_value, Refusable, Acceptable, Right, Lawful}
-use Rattle.past.specs.Sample.{stands}
 use Rattle.past.proofs.Lists.{no_some, dec_in, dec_every, dec_not}
 use Rattle.past.proofs.Alone.{none_some, afresh_alone}
 use Rattle.past.proofs.Total.{total}

@@ -8,7 +8,6 @@ use Rattle.past.specs.Afresh.{In, Finishing, Outcome, gave, Steps, Afresh, worke
 use Rattle.past.specs.Past.{Lent, Run, Request, Call, refused, edited, defined, cleared, queried, Past, start, ◌▹◌, changed, cells, found, or_else, defs, last, up_to, Reaches, directly, beyond, stored, state, Touches, Still, then, since, never, touched, InDoubt}
 use Rattle.past.specs.Law.{Right, Lawful}
 use Rattle.past.specs.Theorems.{UpToDate}
-use Rattle.past.specs.Sample.{stands}
 use Rattle.past.proofs.Lists.{no_some, ends_one}
 use Rattle.past.proofs.Alone.{none_some, one_def, alike}
 use Rattle.past.proofs.Whole.{all_whole, coherent, found_in, Sound, sound_found}

@@ -3,12 +3,11 @@ use Rattle.std.proofs.Common.{◌≡◌, ℕ, zero, suc, Bool, ◌⊎◌, List, 
 use mathlib.Core.Option.{none, some}
 use native.Mathlib.Decide.{ℕ_discrete}
 use Rattle.std.proofs.lemmas.Bool.{eq-eqb, ne_eqb}
-use Rattle.interfaces.specs.Tasks.{asks, Def, Verdict}
+use Rattle.interfaces.specs.Tasks.{Def, Verdict}
 use Rattle.interfaces.specs.Traces.{Pair, Trace}
 use Rattle.past.specs.Afresh.{In, first, later, State, Finishing, gave, Steps, finishes, reads, descends, Afresh, worked}
 use Rattle.past.specs.Past.{Run, refused, edited, defined, cleared, queried, Past, start, ◌▹◌, defs, traces_of, runs_of, kept, state, Fits, Report, end, ran, again, idle}
 use Rattle.past.specs.Law.{Right, Lawful}
-use Rattle.past.specs.Sample.{stands}
 use Rattle.past.proofs.Lists.{in_both, Ends, ends_one, ends_right}
 use Rattle.past.proofs.Alone.{one_def}
 use Rattle.past.proofs.Whole.{Whole, all_whole}

@@ -8,9 +8,7 @@ use Rattle.past.specs.Afresh.{State, Finishing, Layer, engine, language, fault, 
 use Rattle.past.specs.Past.{Lent, Run, refused, edited, defined, cleared, queried, Past, start, ◌▹◌, defs, state}
 use Rattle.past.specs.Law.{Right, Lawful}
 use Rattle.past.specs.Theorems.{ToldApart}
-use Rattle.past.specs.Sample.{stands}
 use Rattle.past.proofs.Lists.{no_some}
-use Rattle.past.proofs.Elsewhere.{own}
 use Rattle.past.proofs.Since.{changed_here, changed_away}
 
 module _ {M : Type 0} (stands : List ℕ → Verdict M) (own : (text : List ℕ) → Own (stands text)) where

@@ -8,11 +8,9 @@ use Rattle.past.specs.Afresh.{In, first, later, State, Finishing, Layer, Outcome
 use Rattle.past.specs.Past.{Lent, Run, queried, Past, ◌▹◌, defs, state, Report, end, ran, idle, again}
 use Rattle.past.specs.Law.{Right, Lawful}
 use Rattle.past.specs.Theorems.{Chained}
-use Rattle.past.specs.Sample.{stands}
 use Rattle.past.proofs.Lists.{Ends, free, free_most, free_fewer, free_front}
 use Rattle.past.proofs.Total.{below_count}
 use Rattle.past.proofs.Whole.{all_whole}
-use Rattle.past.proofs.Since.{before}
 use Rattle.past.proofs.Decided.{bound}
 
 module _ {M : Type 0} (s : State M) (bound : (c : ℕ) → cell_count ≤ c → s.defs c ≡ none) where

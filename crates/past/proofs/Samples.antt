@@ -2,7 +2,7 @@
 use Rattle.std.proofs.Common.{◌≡◌, ℕ, ◌+◌, ◌/◌, ◌<◌, List, [], ◌∷◌, ◌++◌, length, replicate, Ok, sym, refl, ◌∙◌, subst, inl, inr, arith}
 use mathlib.Core.Option.{Option, none, some}
 use Rattle.interfaces.specs.Cells.{text_limit}
-use Rattle.interfaces.specs.Tasks.{asks, Def, legal}
+use Rattle.interfaces.specs.Tasks.{Def, legal}
 use Rattle.interfaces.specs.Traces.{Trace}
 use Rattle.past.specs.Afresh.{In, first, later, State, Finishing, gave, Steps, finishes, ninth, circle, reads, descends, sinks, Afresh, worked}
 use Rattle.past.specs.Past.{edit, query, defined, Past, start, changed, cells, found, or_else, result_or, defs, last, up_to, Reaches, directly, beyond, traces_of, runs_of, kept, stored, state, Touches, Still, then, since, falls, fell, Cause, never, touched, Fits, Runs, end, ran, idle}

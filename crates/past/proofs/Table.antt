@@ -6,10 +6,9 @@ use Rattle.std.proofs.lemmas.Bool.{both_ways, lt-ltb, le-ltb, le-leb, lt-leb}
 use Rattle.interfaces.specs.Cells.{cell_count, text_limit, work_length}
 use Rattle.interfaces.specs.Refusals.{Said, no_at, no as refusal}
 use Rattle.interfaces.specs.Tasks.{Def, Verdict, legal, illegal, placing, judged}
-use Rattle.past.specs.Past.{Lent, Request, edit, define, clear, query, refused, Past, defs}
+use Rattle.past.specs.Past.{Lent, Request, edit, define, clear, query, Past, defs}
 use Rattle.past.specs.Law.{Concerns, lent_little, has_definition, locked_edit, locked_define, bad_length, not_in_language, no_definition, no_value, Refusable, Acceptable}
 use Rattle.past.specs.Theorems.{Placed}
-use Rattle.past.specs.Sample.{stands}
 use Rattle.past.proofs.Lists.{no_some}
 
 module _ {M : Type 0} (locks : ℕ → Bool) (stands : List ℕ → Verdict M) (p : Past M) where
