@@ -1,7 +1,7 @@
 -- What a rebuilder means: traces, and the plan that they give.
 use Rattle.std.specs.Prelude.{ℕ, ◌≤◌, Bool, cond, List, [], ◌∷◌, length, take, Ok, Err, Result, ◌==◌, nat_le}
 use Rattle.std.proofs.Math.Option.{Option, none, some}
-use Rattle.std.specs.List.{AllByRecursion as All}
+use Rattle.std.specs.List.{AllByRecursion}
 use Rattle.interfaces.specs.declared.cell.Cell.{Cell}
 use Rattle.interfaces.specs.declared.step.Plan.{Plan}
 use Rattle.interfaces.specs.declared.step.Plan.TheVariants.{Run, Keep, Next}
@@ -21,7 +21,7 @@ pub record Trace (M : Type 0) : Type 0 where
 -- at most `depth` traces, each of at most eight pairs
 pub record Bounded {M : Type 0} (depth : ℕ) (traces : List (Trace M)) : Type 0 where
   pub few : length traces ≤ depth
-  pub short : All (λ (t : Trace M). length t.asks ≤ ask_limit) traces
+  pub short : AllByRecursion (λ (t : Trace M). length t.asks ≤ ask_limit) traces
 
 -- what to do about a cell: run it, keep a value, or ask for a cell first
 pub data Planned (M : Type 0) : Type 0 where

@@ -1,7 +1,7 @@
 -- The traces that a row stands for are within their limits, whatever the row and the memory. Assumes nothing.
 use Rattle.std.specs.Prelude.{ℕ, zero, suc, ◌+◌, ◌≤◌, List, [], ◌∷◌, map, length, slice_index_or}
 use Rattle.std.proofs.Common.{arith}
-use Rattle.std.specs.List.{range_with_len, AllByRecursion as All}
+use Rattle.std.specs.List.{range_with_len, AllByRecursion}
 use Rattle.std.proofs.lemmas.List.FromFn.{length-map-range_with_len}
 use Rattle.std.proofs.lemmas.List.{length-take}
 use Rattle.interfaces.specs.declared.cell.Cell.{Cell}
@@ -24,7 +24,7 @@ few_asked a = let h = a.short in simp length-take (omega arith)
 short_pairs : {V : Type 0} (canon : V → V) (a : Asked) (vs : List V) → length (pairs_of canon (asked_cells a) vs) ≤ ask_limit
 short_pairs canon a vs = let h = few_pairs canon (asked_cells a) vs in let l = few_asked a in omega arith
 
-all_counted : {A : Type 0} (P : A → Type 0) (f : ℕ → A) (a n : ℕ) → ((i : ℕ) → P (f i)) → All P (map f (range_with_len a n))
+all_counted : {A : Type 0} (P : A → Type 0) (f : ℕ → A) (a n : ℕ) → ((i : ℕ) → P (f i)) → AllByRecursion P (map f (range_with_len a n))
 all_counted P f a zero h = tt
 all_counted P f a (suc n) h = (h a, all_counted P f (a + 1) n h)
 

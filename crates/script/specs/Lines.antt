@@ -1,6 +1,6 @@
 -- Scripts as bytes: how they fall into lines, and what a line says.
 use Rattle.std.specs.Prelude.{◌≡◌, ℕ, ◌<◌, ◌≤◌, List, [], ◌∷◌, ◌++◌, length, codes, ◌≢◌, slice_index}
-use Rattle.std.specs.List.{AllByRecursion as All}
+use Rattle.std.specs.List.{AllByRecursion}
 use Rattle.interfaces.specs.Cells.{cell_count, number_of}
 use Rattle.interfaces.specs.Refusals.{Said, no}
 use Rattle.names.specs.Names.{name_of}
@@ -20,7 +20,7 @@ line_limit = 64
 
 -- no byte 10 among these
 abbrev pub Unbroken : List ℕ → Type 0
-Unbroken bytes = All (λ b. b ≢ 10) bytes
+Unbroken bytes = AllByRecursion (λ b. b ≢ 10) bytes
 
 -- the first line of these bytes, and what follows it: a line ends with byte 10; a last one without it counts if it is not empty
 pub data Cut : List ℕ → List ℕ → List ℕ → Type 0 where

@@ -2,7 +2,7 @@
 use Rattle.std.specs.Prelude.{◌≡◌, ℕ, zero, suc, ◌+◌, ◌-◌, ◌^◌, ◌<◌, ◌≤◌, Bool, true, false, cond, List, [], ◌++◌, length, take, drop, replicate, Some, None, Decides, nat_le, refl}
 use Rattle.std.proofs.Common.{sym, ◌∙◌, arith, length-append, length-drop}
 use Rattle.std.proofs.Math.Path.{ap}
-use Rattle.std.specs.List.{AllByRecursion as All}
+use Rattle.std.specs.List.{AllByRecursion}
 use Rattle.std.proofs.ByRecursion.{All-append, All-take, All-drop, All-weaker, Decides-by_and}
 use Rattle.std.proofs.lemmas.List.{append_assoc, take-append-drop, drop-drop, take_all, length-take-le, length-replicate}
 use Rattle.std.proofs.lemmas.Bool.Decides.{nat_tests, Decides-and, Decides-ltb}
@@ -15,11 +15,11 @@ use Rattle.interfaces.proofs.Zeros.{take_padding, drop_padding}
 use Rattle.text.specs.Packing.{form, sound_from}
 
 -- eight of 32 bytes, from a place on
-module _ (bs : List ℕ) (l : length bs ≡ 32) (h : All (λ b. b < 256) bs) (i : ℕ) (le : i + 8 ≤ 32) where
+module _ (bs : List ℕ) (l : length bs ≡ 32) (h : AllByRecursion (λ b. b < 256) bs) (i : ℕ) (le : i + 8 ≤ 32) where
   eight : length (take 8 (drop i bs)) ≡ 8
   eight = length-take-le 8 (drop i bs) (simp length-drop (omega arith))
 
-  all_small : All (λ b. b < 256) (take 8 (drop i bs))
+  all_small : AllByRecursion (λ b. b < 256) (take 8 (drop i bs))
   all_small = All-take (λ b. b < 256) 8 (drop i bs) (All-drop (λ b. b < 256) i bs h)
 
   word_at : word_bytes (word_of (take 8 (drop i bs))) ≡ take 8 (drop i bs)
@@ -40,12 +40,12 @@ pieces bs l =
     let g : take 8 bs ++ (take 8 (drop 8 bs) ++ (take 8 (drop 16 bs) ++ take 8 (drop 24 bs))) ≡ bs = cc in
     simp append_assoc g
 
-pub bytes_packed : (bs : List ℕ) (n : ℕ) → length bs ≡ 32 → All (λ b. b < 256) bs → text_bytes (text_packed bs n) ≡ bs
+pub bytes_packed : (bs : List ℕ) (n : ℕ) → length bs ≡ 32 → AllByRecursion (λ b. b < 256) bs → text_bytes (text_packed bs n) ≡ bs
 bytes_packed bs n l h =
     rw (word_at bs l h 0 (omega arith), word_at bs l h 8 (omega arith), word_at bs l h 16 (omega arith), word_at bs l h 24 (omega arith))
     (pieces bs l)
 
-packed_fits : (bs : List ℕ) (n : ℕ) → length bs ≡ 32 → All (λ b. b < 256) bs → n < 2 ^ 8 → Fitting (text_packed bs n)
+packed_fits : (bs : List ℕ) (n : ℕ) → length bs ≡ 32 → AllByRecursion (λ b. b < 256) bs → n < 2 ^ 8 → Fitting (text_packed bs n)
 packed_fits bs n l h small =
     record {
       a = word_fits bs l h 0 (omega arith);
@@ -59,16 +59,16 @@ packed_fits bs n l h small =
 printable_tells : (b : ℕ) → Decides (printable_byte b) (IsPrintable b)
 printable_tells b = Decides-and (nat_le 32 b) (nat_le b 126) (Decides-ltb 31 b) (grind (arith, nat_tests))
 
-pub all_tells : (bs : List ℕ) → Decides (printable_bytes bs) (All IsPrintable bs)
+pub all_tells : (bs : List ℕ) → Decides (printable_bytes bs) (AllByRecursion IsPrintable bs)
 all_tells bs = Decides-by_and printable_byte IsPrintable (every printable_byte) printable_tells refl (λ _ _. refl) bs
 
-small_padding : (bs : List ℕ) → All IsPrintable bs → All (λ b. b < 256) (padding bs)
+small_padding : (bs : List ℕ) → AllByRecursion IsPrintable bs → AllByRecursion (λ b. b < 256) (padding bs)
 small_padding bs h =
     All-append (λ b. b < 256) bs (replicate (32 - length bs) 0)
     (All-weaker IsPrintable (λ b. b < 256) (λ b p. omega arith) bs h)
     (zeros (32 - length bs))
   where
-    zeros : (n : ℕ) → All (λ b. b < 256) (replicate n 0)
+    zeros : (n : ℕ) → AllByRecursion (λ b. b < 256) (replicate n 0)
     zeros zero = tt
     zeros (suc n) = (omega arith, zeros n)
 

@@ -1,6 +1,6 @@
 -- Texts: the bytes of a record, which records are sound, what a record means, and how texts are put together.
 use Rattle.std.specs.Prelude.{◌≡◌, ℕ, zero, suc, ◌+◌, ◌*◌, ◌/◌, ◌%◌, ◌^◌, ◌<◌, ◌≤◌, Bool, true, cond, ◌&&◌, List, [], ◌∷◌, ◌++◌, length, take, drop, Some, None, Option, ◌==◌, nat_le}
-use Rattle.std.specs.List.{AllByRecursion as All}
+use Rattle.std.specs.List.{AllByRecursion}
 use Rattle.interfaces.specs.Printing.{padding}
 use Rattle.text.specs.declared.Text.{Text}
 
@@ -116,5 +116,5 @@ pub record Fitting (t : Text) : Type 0 where
 abbrev pub TextForm : Type 0
 TextForm =
     (bs : List ℕ) →
-    ((t : Text) → text_means t ≡ bs → (length bs ≤ text_longest) × All IsPrintable bs)
-    × (length bs ≤ text_longest → All IsPrintable bs → (t : Text) × Fitting t × (text_means t ≡ bs))
+    ((t : Text) → text_means t ≡ bs → (length bs ≤ text_longest) × AllByRecursion IsPrintable bs)
+    × (length bs ≤ text_longest → AllByRecursion IsPrintable bs → (t : Text) × Fitting t × (text_means t ≡ bs))

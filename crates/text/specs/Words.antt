@@ -2,7 +2,7 @@
 use Rattle.std.specs.Prelude.{◌≡◌, ℕ, zero, suc, ◌+◌, ◌*◌, ◌/◌, ◌%◌, ◌^◌, ◌<◌, List, [], ◌∷◌, length, drop, slice_index, refl}
 use Rattle.std.proofs.Common.{ap, arith}
 use Rattle.std.proofs.Math.Nat.{div-div-eq-div-mul}
-use Rattle.std.specs.List.{AllByRecursion as All}
+use Rattle.std.specs.List.{AllByRecursion}
 use Rattle.std.proofs.ByRecursion.{All-get_or}
 use Rattle.std.proofs.lemmas.List.{drop_all}
 use Rattle.text.specs.Text.{bytes_of, word_bytes, word_of}
@@ -19,7 +19,7 @@ word_of_bytes_of zero w = omega arith
 word_of_bytes_of (suc n) w = let e = word_of_bytes_of n (w / 256) in omega arith
 
 -- bytes are those of the number that they make
-pub bytes_of_word_of : (n : ℕ) (bs : List ℕ) → length bs ≡ suc n → All (λ b. b < 256) bs → bytes_of n (word_of bs) ≡ bs
+pub bytes_of_word_of : (n : ℕ) (bs : List ℕ) → length bs ≡ suc n → AllByRecursion (λ b. b < 256) bs → bytes_of n (word_of bs) ≡ bs
 unfolding bytes_of word_of
 bytes_of_word_of n [] l h = grind arith
 bytes_of_word_of zero (b ∷ []) l h = let e : b + 256 * 0 ≡ b = omega arith in ap (λ (k : ℕ). k ∷ []) e
@@ -55,7 +55,7 @@ word_bytes_eight w small =
     rw e (simp div-div-eq-div-mul)
 
 -- eight bytes make a word
-pub word_of_lt : (bs : List ℕ) → length bs ≡ 8 → All (λ b. b < 256) bs → word_of bs < 2 ^ 64
+pub word_of_lt : (bs : List ℕ) → length bs ≡ 8 → AllByRecursion (λ b. b < 256) bs → word_of bs < 2 ^ 64
 word_of_lt bs l h =
     let at : (i : ℕ) → i < 8 → slice_index bs i < 256 = λ i k. All-get_or (λ b. b < 256) bs i 0 (omega arith) h in
     omega (arith, word_of_eight bs l, at 0 (omega arith), at 1 (omega arith), at 2 (omega arith), at 3 (omega arith), at 4 (omega arith), at 5 (omega arith), at 6 (omega arith), at 7 (omega arith))

@@ -3,7 +3,7 @@ use Rattle.std.specs.Prelude.{◌≡◌, ℕ, zero, suc, ◌+◌, ◌-◌, ◌*�
 use Rattle.std.proofs.Common.{sym, ◌∙◌, ap, subst, arith, length-take, length-drop}
 use Rattle.std.specs.Str.Parse.{AllDigits, digits_value}
 use Rattle.std.specs.Fmt.{signed_decimal}
-use Rattle.std.specs.List.{AllByRecursion as All}
+use Rattle.std.specs.List.{AllByRecursion}
 use Rattle.std.proofs.lemmas.Fmt.{decimal_nonempty, decimal_digit, length-decimal-le, first_decimal, digits_decimal, digits_value-decimal, decimal-digits_value, decimal_injective}
 use Rattle.std.proofs.lemmas.Int.Digits.{digits_value_more, digits_more}
 use Rattle.std.proofs.lemmas.Str.{digit_value_digit}
@@ -13,9 +13,9 @@ use Rattle.std.proofs.lemmas.List.{take_all}
 use Rattle.std.proofs.lemmas.Bool.Decides.{nat_tests}
 use Rattle.whole.specs.Whole.{whole_limit, limited, written_whole, horner, IsDigit, IsNumeral, WholeForm, begun_well, NoNumeral, NoNumber}
 
-own : IsNumeralModel (All IsDigit) (horner 0)
+own : IsNumeralModel (AllByRecursion IsDigit) (horner 0)
 own =
-    numerals_by_fold (All IsDigit)
+    numerals_by_fold (AllByRecursion IsDigit)
     (record {
       empty = tt;
       parts = λ c cs d. ((omega (arith, d.0), omega (arith, d.0)), d.1);

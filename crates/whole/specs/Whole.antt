@@ -1,7 +1,7 @@
 -- Whole numbers: their limits, what a record means, and how a number is written.
 use Rattle.std.specs.Prelude.{◌≡◌, ℕ, suc, ◌+◌, ◌-◌, ◌*◌, ◌<◌, ◌≤◌, Bool, true, false, cond, not, List, [], ◌∷◌, length, ℤ, pos, negsuc, Some, None, decimal, Option, ◌==◌, ◌≢◌, nat_le, slice_index_or, unsigned_abs}
 use Rattle.std.specs.Fmt.{signed_decimal}
-use Rattle.std.specs.List.{AllByRecursion as All}
+use Rattle.std.specs.List.{AllByRecursion}
 use Rattle.whole.specs.declared.Whole.{Whole}
 
 -- how far a whole number may lie from 0
@@ -54,7 +54,7 @@ IsDigit b = (48 ≤ b) × (b ≤ 57)
 -- digits, at least one, that write the number `n`; the first is `0` only if it is alone
 pub record IsNumeral (ds : List ℕ) (n : ℕ) : Type 0 where
   pub some : 0 < length ds
-  pub digits : All IsDigit ds
+  pub digits : AllByRecursion IsDigit ds
   pub plain : slice_index_or ds 0 0 ≡ 48 → length ds ≡ 1
   pub value : horner 0 ds ≡ n
 
