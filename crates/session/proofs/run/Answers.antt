@@ -1,4 +1,4 @@
-use Rattle.std.proofs.Common.{◌++◌, vec_items, refl, ap, ◌∙◌, append_assoc, true-eqb}
+use Rattle.std.proofs.Common.{◌++◌, vec_items, refl, ap, ◌∙◌, append_assoc, true-eqb, rules}
 use Rattle.answers.specs.Answers.{ok_line, refusal_line}
 use Rattle.session.specs.Session.{long, unopened, opened}
 use Rattle.session.proofs.Once.{one_cut, no_cut}
@@ -7,7 +7,7 @@ use Rattle.session.proofs.run.Goals as goal
 
 pub returns-then-input-gt-SCRIPT : goal.returns-then-input-gt-SCRIPT
 returns-then-input-gt-SCRIPT c =
-    printed_as (long c.if-input-gt-SCRIPT.true) c.in_ok-print_refusal.ensures c.new-out.ensures.items
+    printed_as (long c.if-input-gt-SCRIPT.true) (search rules) c.new-out.ensures.items
 
 pub returns-then-is_empty : goal.returns-then-is_empty
 returns-then-is_empty c =
