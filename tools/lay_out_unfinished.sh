@@ -14,4 +14,5 @@ cp -R "$top/unfinished/crates/." "$to/crates/"
 find "$to/crates" \( -name '*.rt.txt' -o -name '*.antt.txt' \) | while read -r file; do
   mv -f "$file" "${file%.txt}"
 done
+find "$to/crates" -type d -empty -delete
 cp "$top/unfinished/crate-list.txt" "$to/crates.txt"
