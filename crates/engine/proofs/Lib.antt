@@ -1,2 +1,3 @@
 pub mod Equal
 pub mod Ways
+pub mod Querying

@@ -1,2 +1,4 @@
 pub mod Given
 pub mod Promise
+pub mod Queries
+pub mod Shown

@@ -1,21 +1,24 @@
-// The workbook: its making, edits, definitions and clearings, over any kind of value, store, language and rebuilder.
+// The workbook: its making and its four calls, over any kind of value, store, language and rebuilder.
 #![tactic(auto)]
 
-ghost use Rattle.std.specs.Prelude.{Ok};
+ghost use Rattle.std.specs.Prelude.{length, Ok};
 ghost use Rattle.interfaces.specs.Cells.{number_of};
 ghost use Rattle.interfaces.specs.Refusals.{told};
 ghost use Rattle.past.specs.Past.{edit as Edits, define as Defines, clear as Clears, start};
 ghost use Rattle.view.specs.View.{Shows};
 ghost use Rattle.parts.specs.Shown.{view_of};
+ghost use Rattle.scheduler.specs.Promise.{Comes};
 ghost use Rattle.engine.specs.Promise.{Promise};
 ghost use Rattle.engine.specs.Given.{given_of, ReadAs};
 
 use interfaces::{Cell, Language, Printed, Rebuilder, Refusal, Store, Value};
 use parts::Parts;
+use scheduler::{Answer, Ran, query};
 use std::marker::PhantomData;
 use table::{Record, Table};
 
 /// A workbook of one kind of value.
+#[derive(Drop)]
 pub struct Workbook<V, S, L, R> {
     pub parts: Parts<S, L, R>,
     kind: PhantomData<V>,
@@ -68,7 +71,7 @@ impl<V: Value, S: Store<V>, L: Language<V>, R: Rebuilder<V>> Workbook<V, S, L, R
             return Ok(());
         }
         self.parts.store.write(cell, value)?;
-        self.parts.table.mark(cell);
+        self.parts.table.mark(cell); // who reached it comes into doubt
         Ok(())
     }
 
@@ -105,6 +108,34 @@ impl<V: Value, S: Store<V>, L: Language<V>, R: Rebuilder<V>> Workbook<V, S, L, R
         self.parts.table.mark(cell); // whatever the value was
         self.parts.table.change(cell, Record::blank());
         Ok(())
+    }
+
+    /// The value of a cell, or its fault, as working out afresh gives it. The report list has in front the runs that
+    /// it took, and the chain list the chain of a fault; the working list is free.
+    pub fn query(
+        &mut self,
+        cell: Cell,
+        report: &mut [Ran],
+        chain: &mut [Cell],
+        work: &mut [V],
+    ) -> Result<Answer<V>, Refusal>
+        ensures { Comes V.Value.canon V.Value.blank (S.Store.locked self.old.parts.store) L.Language.stands R.Rebuilder.depth
+            (record {
+              cell = number_of cell;
+              lent = record { report = length report.entry.now; chain = length chain.old; work = length work.old };
+              parts_before = self.old.parts;
+              parts_after = self.new.parts;
+              view_before = view_of V.Value.canon S.Store.shows S.Store.locked L.Language.means R.Rebuilder.traces self.old.parts;
+              view_after = view_of V.Value.canon S.Store.shows S.Store.locked L.Language.means R.Rebuilder.traces self.new.parts;
+              report_before = report.entry.now;
+              report_after = report.exit.now;
+              chain_before = chain.old;
+              chain_after = chain.new;
+              work_before = work.old;
+              work_after = work.new;
+            }) result }
+    {
+        query(&mut self.parts, cell, report, chain, work)
     }
 }
 

@@ -4,6 +4,7 @@
 use table::Table;
 
 /// A store, a language, a rebuilder, and the record of each cell.
+#[derive(Drop)]
 pub struct Parts<S, L, R> {
     pub store: S,
     pub language: L,

@@ -1,0 +1,4 @@
+pub mod Panels
+pub mod Steps
+pub mod Reading
+pub mod Rightly

@@ -1,0 +1,5 @@
+pub mod Panel
+pub mod Fallback
+pub mod FallbackFaults
+pub mod Held
+pub mod Places

@@ -1,0 +1,195 @@
+// The language: `10|F0` is the value of the cell 10, or, where that is 0, the value of the cell F0; where both are 0,
+// nobody has set the panel, and that is a fault. A cell is written as its number, in two hexadecimal digits.
+ghost use Rattle.std.specs.Prelude.{◌≡◌, ℕ, ◌<◌, ◌≤◌, true, map, length, None as Nothing, slice_index_or};
+ghost use Rattle.interfaces.specs.Cells.{number_of};
+ghost use Rattle.interfaces.specs.Tasks.{step_means, step_of};
+ghost use Rattle.whole.specs.Whole.{whole_blank, whole_canon};
+ghost use Rattle.buyer.specs.Fallback.{is_hex_lem, hex_value_lem, numbered, may_stand_lem, right_from, unset, fallback_stands};
+ghost use Rattle.buyer.specs.Held.{verdict_of, held_means};
+ghost use Rattle.buyer.specs.FallbackFaults.{fallback_own};
+ghost use Rattle.buyer.specs.Places.{FallbackPlaces};
+
+use interfaces::cell::{Cell, TEXT};
+use interfaces::language::Language;
+use interfaces::refusal::Refusal;
+use interfaces::step::{LanguageFault, Step};
+use interfaces::value::Value;
+use whole::Whole;
+
+/// The fault of a definition both of whose cells are 0.
+pub const UNSET: u8 = 40;
+
+// how many bytes a definition has
+const LENGTH: usize = 5;
+
+// where its bar stands
+const BAR: usize = 2;
+
+// where its second cell stands, the mark of the fault
+const SECOND: usize = 3;
+
+// The first cell, or else the second.
+#[derive(Clone, Copy)]
+struct Fallback {
+    first: Cell,
+    second: Cell,
+}
+
+/// At most one definition for each cell. They are held as they were read, in memory of the language's own.
+#[derive(Drop)]
+pub struct Fallbacks {
+    held: [Option<Fallback>; 256],
+}
+
+fn is_hex(byte: u8) -> bool
+    ensures { result ≡ is_hex_lem byte }
+{
+    if byte <= b'9' {
+        byte >= b'0'
+    } else {
+        byte >= b'A' && byte <= b'F'
+    }
+}
+
+// The value of a digit.
+fn hex_value(byte: u8) -> usize
+    requires { is_hex_lem byte ≡ true }
+    ensures value { result ≡ hex_value_lem byte }
+    ensures bound { result < 16 }
+{
+    if byte <= b'9' {
+        (byte - b'0') as usize
+    } else {
+        (byte - b'A') as usize + 10
+    }
+}
+
+// The cell that two digits write.
+fn cell_of(high: u8, low: u8) -> Cell
+    requires { (is_hex_lem high ≡ true) × (is_hex_lem low ≡ true) }
+    ensures { number_of result ≡ numbered high low }
+{
+    let number = hex_value(high) * 16 + hex_value(low);
+    match Cell::new(number) {
+        Some(cell) => cell,
+        None => unreachable(),
+    }
+}
+
+// Whether a byte may stand at a place of a definition.
+fn may_stand(place: usize, byte: u8) -> bool
+    ensures { result ≡ may_stand_lem place byte }
+{
+    if place == BAR {
+        byte == b'|'
+    } else {
+        place < LENGTH && is_hex(byte)
+    }
+}
+
+// How many bytes, from the start on, stand where they may.
+fn beginning(text: &[u8]) -> usize
+    ensures value { result ≡ right_from 0 text.now }
+    ensures bound { result ≤ 5 }
+{
+    for i in 0..text.len() {
+        if !may_stand(i, text[i]) {
+            return i;
+        }
+    }
+    text.len()
+}
+
+// Reads a definition, or finds the place where the text leaves the language.
+fn read(text: &[u8]) -> Result<Fallback, u8>
+    ensures { verdict_of result ≡ fallback_stands text.now }
+{
+    let right = beginning(text);
+    if text.len() != LENGTH || right != LENGTH {
+        return Err(right as u8);
+    }
+    Ok(Fallback {
+        first: cell_of(text[0], text[1]),
+        second: cell_of(text[3], text[4]),
+    })
+}
+
+fn is_unset(value: Whole) -> bool
+    ensures { result ≡ unset value }
+{
+    value.is_like(&Whole::blank_value())
+}
+
+// The step of a cell with this definition, if it has one.
+fn step_of(held: Option<Fallback>, answers: &[Whole]) -> Step<Whole>
+    ensures { step_means whole_canon result ≡ step_of whole_blank (held_means held) (map whole_canon answers.now) }
+{
+    let Some(cells) = held else {
+        return Step::Give(Whole::blank_value());
+    };
+    if answers.is_empty() {
+        return Step::Ask(cells.first);
+    }
+    if !is_unset(answers[0]) {
+        return Step::Give(answers[0]);
+    }
+    if answers.len() < 2 {
+        return Step::Ask(cells.second);
+    }
+    if !is_unset(answers[1]) {
+        return Step::Give(answers[1]);
+    }
+    Step::Fault(LanguageFault {
+        number: UNSET,
+        mark: SECOND as u16,
+    })
+}
+
+impl Fallbacks {
+    /// A language without definitions.
+    pub fn new() -> Fallbacks
+        ensures { (k : ℕ) → slice_index_or result.held k Nothing ≡ Nothing }
+    {
+        Fallbacks { held: [None; 256] }
+    }
+}
+
+impl Language<Whole> for Fallbacks {
+    ghost means = { λ s k. held_means (slice_index_or s.held k Nothing) };
+
+    ghost stands = { fallback_stands };
+
+    ghost own = { fallback_own };
+
+    fn step(&self, cell: Cell, answers: &[Whole]) -> Step<Whole> {
+        step_of(self.held[cell.number()], answers)
+    }
+
+    fn place(&mut self, cell: Cell, text: &[u8]) -> Result<(), Refusal> {
+        if text.is_empty() || text.len() > TEXT {
+            return Err(Refusal::TextLength);
+        }
+        match read(text) {
+            Ok(fallback) => {
+                self.held[cell.number()] = Some(fallback);
+                Ok(())
+            }
+            Err(place) => Err(Refusal::NotInLanguage(place)),
+        }
+    }
+
+    fn remove(&mut self, cell: Cell) {
+        self.held[cell.number()] = None;
+    }
+
+    fn wipe(&mut self) {
+        self.held = [None; 256];
+    }
+}
+
+/// Tells in its contract that the places of refused texts are the right ones, in words that name no program.
+pub fn places() -> u8
+    ensures { FallbackPlaces }
+{
+    0
+}
