@@ -3,3 +3,5 @@ pub mod Refusals
 pub mod Tasks
 pub mod Traces
 pub mod Printing
+pub mod Asks
+pub mod Memory

@@ -22,10 +22,13 @@ pub const TRACE: usize = CELLS * (ASKS + 1);
 pub const DEFINITIONS: usize = CELLS * TEXT;
 
 /// One of the cells of a workbook.
-#[derive(Clone, Copy)]
+#[derive(Clone, Copy, PartialEq, Eq)]
 pub struct Cell(u8);
 
 impl Cell {
+    /// The first cell, which also fills places that are not used.
+    pub const FIRST: Cell = Cell(0);
+
     /// The cell of a number, or none where the number is too large.
     pub fn new(number: usize) -> Option<Cell>
         ensures { option_map number_of result ≡ cell_numbered number }

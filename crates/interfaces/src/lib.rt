@@ -2,8 +2,11 @@
 // rebuilder, and the traits of values, stores, languages and rebuilders with their meanings.
 #![tactic(auto)]
 
+pub mod asked;
+mod asks;
 pub mod cell;
 pub mod language;
+pub mod memory;
 pub mod rebuilder;
 pub mod refusal;
 pub mod step;
@@ -11,6 +14,7 @@ pub mod store;
 pub mod value;
 pub mod written;
 
+pub use asked::Asked;
 pub use cell::Cell;
 pub use language::Language;
 pub use rebuilder::Rebuilder;
