@@ -8,6 +8,7 @@ ghost use Rattle.names.specs.Names.{name_of, OffsetAt, NameAt, NoNameAt, Named, 
 
 use interfaces::cell::{CELLS, Cell};
 use interfaces::written::Written;
+use itoa::Buffer;
 
 /// Columns A to P.
 pub const COLUMNS: usize = 16;
@@ -62,17 +63,10 @@ pub fn read_name(text: &[u8]) -> Option<Cell>
 pub fn write_name(cell: Cell) -> Written
     ensures { written_bytes result ≡ name_of (number_of cell) }
 {
-    let column = cell.number() / ROWS;
+    let column = b'A' + (cell.number() / ROWS) as u8;
     let row = cell.number() % ROWS + 1;
-    let mut bytes = [0u8; 32];
-    bytes[0] = b'A' + column as u8;
-    if row < 10 {
-        bytes[1] = b'0' + row as u8;
-        return Written { bytes, len: 2 };
-    }
-    bytes[1] = b'0' + (row / 10) as u8;
-    bytes[2] = b'0' + (row % 10) as u8;
-    Written { bytes, len: 3 }
+    let mut digits = Buffer::new();
+    Written::from_pieces(&[column], digits.format(row).as_bytes()).unwrap()
 }
 
 /// Cells with one name are one cell.
