@@ -21,7 +21,7 @@ pub fn offset_at(text: &[u8], at: usize, first: u8, last: u8) -> Option<u8>
     ensures { OffsetAt text.now at first last result }
 {
     let byte = *text.get(at)?;
-    if first <= byte && byte <= last {
+    if (first..=last).contains(&byte) {
         Some(byte - first)
     } else {
         None

@@ -139,7 +139,8 @@ impl Text {
     pub fn len(self) -> usize
         ensures { result ≡ text_length self }
     {
-        usize::from(self.settled().len)
+        let normal = self.settled();
+        usize::from(normal.len)
     }
 
     /// Whether the text has no bytes.
