@@ -1,7 +1,8 @@
 -- A name that stands at a place, byte by byte. Assumes nothing.
-use Rattle.std.proofs.Common.{◌≡◌, ℕ, ◌+◌, ◌-◌, ◌*◌, ◌/◌, ◌%◌, ◌<◌, ◌≤◌, ◌⊎◌, List, [], ◌∷◌, ◌++◌, length, drop, Some, None, refl, ap, ◌∙◌, inl, inr, ⊎_elim, arith}
+use Rattle.std.proofs.Common.{◌≡◌, ℕ, ◌+◌, ◌-◌, ◌*◌, ◌/◌, ◌%◌, ◌<◌, ◌≤◌, ◌⊎◌, List, [], ◌∷◌, ◌++◌, length, drop, Some, None, decimal, refl, sym, ap, ◌∙◌, inl, inr, ⊎_elim, arith}
 use Rattle.std.proofs.lemmas.List.{drop_more, length-drop}
 use Rattle.std.proofs.lemmas.Bool.{cases_lt, lt-ltb, le-ltb}
+use Rattle.std.proofs.lemmas.Fmt.{decimal_digit, decimal_step}
 use Rattle.interfaces.specs.Cells.{cell_count, cell_numbered}
 use Rattle.names.specs.Names.{ByteAt, column_count, row_count, row_name, name_of, NameAt, OneName}
 
@@ -23,6 +24,13 @@ short_row r l = let e = lt-ltb r 10 l in rw e refl
 
 long_row : (r : ℕ) → 10 ≤ r → row_name r ≡ (48 + r / 10) ∷ (48 + r % 10) ∷ []
 long_row r l = let e = le-ltb r 10 l in rw e refl
+
+-- a row is written in decimal
+pub row_decimal : (r : ℕ) → r ≤ row_count → decimal r ≡ row_name r
+row_decimal r l = ⊎_elim
+    (λ s. decimal_digit r s ∙ sym (short_row r s))
+    (λ s. let t = decimal_step r s (omega arith) in let d = decimal_digit (r / 10) (omega arith) in let q = long_row r s in cc)
+    (cases_lt r 10)
 
 -- the bytes of the name of `m`, which stands at the place
 pub record Stands (text : List ℕ) (at m : ℕ) : Type 0 where

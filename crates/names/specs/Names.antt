@@ -7,6 +7,12 @@ use Rattle.interfaces.specs.Cells.{cell_count, number_of}
 abbrev pub ByteAt : List ℕ → ℕ → ℕ → Type 0
 ByteAt text at b = (at < length text) × (slice_index text at ≡ b)
 
+-- how far behind `first` the byte at the place comes, if it is one from `first` to `last`
+abbrev pub OffsetAt : List ℕ → ℕ → ℕ → ℕ → Option ℕ → Type 0
+OffsetAt text at first last r =
+    MatchOption r ((d : ℕ) → first + d ≤ last → ByteAt text at (first + d) → ⊥)
+    (λ d. (first + d ≤ last) × ByteAt text at (first + d))
+
 -- columns A to P
 abbrev pub column_count : ℕ
 column_count = 16

@@ -4,10 +4,11 @@
 ghost use Rattle.std.specs.Prelude.{◌≡◌, ℕ, ◌+◌, ◌<◌, ◌≤◌, length, MatchOption};
 ghost use Rattle.interfaces.specs.Cells.{cell_count, number_of};
 ghost use Rattle.interfaces.specs.Printing.{written_bytes};
-ghost use Rattle.names.specs.Names.{name_of, NameAt, NoNameAt, Named, OneName, ByteAt, column_count};
+ghost use Rattle.names.specs.Names.{name_of, OffsetAt, NameAt, NoNameAt, Named, OneName};
 
 use interfaces::cell::{CELLS, Cell};
 use interfaces::written::Written;
+use itoa::Buffer;
 
 /// Columns A to P.
 pub const COLUMNS: usize = 16;
@@ -15,31 +16,13 @@ pub const COLUMNS: usize = 16;
 /// Rows 1 to 16.
 pub const ROWS: usize = CELLS / COLUMNS;
 
-// The column whose letter stands at a place.
-fn column_at(text: &[u8], at: usize) -> Option<usize>
-    ensures { MatchOption result ((d : ℕ) → d < column_count → ByteAt text.now at (65 + d) → ⊥) (λ d. (d < column_count) × ByteAt text.now at (65 + d)) }
+/// How far behind `first` the byte at a place comes, if it is one from `first` to `last`.
+pub fn offset_at(text: &[u8], at: usize, first: u8, last: u8) -> Option<u8>
+    ensures { OffsetAt text.now at first last result }
 {
-    if at >= text.len() {
-        return None;
-    }
-    let b = text[at];
-    if b >= b'A' && b <= b'P' {
-        Some((b - b'A') as usize)
-    } else {
-        None
-    }
-}
-
-// The digit that stands at a place.
-fn digit_at(text: &[u8], at: usize) -> Option<usize>
-    ensures { MatchOption result ((d : ℕ) → d < 10 → ByteAt text.now at (48 + d) → ⊥) (λ d. (d < 10) × ByteAt text.now at (48 + d)) }
-{
-    if at >= text.len() {
-        return None;
-    }
-    let b = text[at];
-    if b >= b'0' && b <= b'9' {
-        Some((b - b'0') as usize)
+    let byte = *text.get(at)?;
+    if (first..=last).contains(&byte) {
+        Some(byte - first)
     } else {
         None
     }
@@ -49,14 +32,15 @@ fn digit_at(text: &[u8], at: usize) -> Option<usize>
 pub fn name_at(text: &[u8], at: usize) -> Option<(Cell, usize)>
     ensures { MatchOption result (NoNameAt text.now at) (λ p. NameAt text.now at (number_of p.0) p.1) }
 {
-    let column = column_at(text, at)?;
-    let row = digit_at(text, at + 1)?;
+    let column = usize::from(offset_at(text, at, b'A', b'P')?);
+    let row = usize::from(offset_at(text, at + 1, b'0', b'9')?);
     if row == 0 {
         return None;
     }
-    if let Some(low) = digit_at(text, at + 2) {
-        if row * 10 + low <= ROWS {
-            let cell = Cell::new(column * ROWS + (row * 10 + low - 1))?;
+    if let Some(low) = offset_at(text, at + 2, b'0', b'9') {
+        let long = row * 10 + usize::from(low);
+        if long <= ROWS {
+            let cell = Cell::new(column * ROWS + (long - 1))?;
             return Some((cell, at + 3));
         }
     }
@@ -79,17 +63,10 @@ pub fn read_name(text: &[u8]) -> Option<Cell>
 pub fn write_name(cell: Cell) -> Written
     ensures { written_bytes result ≡ name_of (number_of cell) }
 {
-    let column = cell.number() / ROWS;
+    let column = b'A' + (cell.number() / ROWS) as u8;
     let row = cell.number() % ROWS + 1;
-    let mut bytes = [0u8; 32];
-    bytes[0] = b'A' + column as u8;
-    if row < 10 {
-        bytes[1] = b'0' + row as u8;
-        return Written { bytes, len: 2 };
-    }
-    bytes[1] = b'0' + (row / 10) as u8;
-    bytes[2] = b'0' + (row % 10) as u8;
-    Written { bytes, len: 3 }
+    let mut digits = Buffer::new();
+    Written::from_pieces(&[column], digits.format(row).as_bytes()).unwrap()
 }
 
 /// Cells with one name are one cell.

@@ -1,15 +1,16 @@
 -- The record that is packed from given bytes, and which bytes are the written form of a text. Assumes nothing of a record.
-use Rattle.std.specs.Prelude.{◌≡◌, ℕ, zero, suc, ◌+◌, ◌-◌, ◌^◌, ◌<◌, ◌≤◌, Bool, true, false, cond, List, [], ◌++◌, length, take, drop, replicate, Some, None, Decides, nat_le, refl}
+use Rattle.std.specs.Prelude.{◌≡◌, ℕ, zero, suc, ◌+◌, ◌-◌, ◌^◌, ◌<◌, ◌≤◌, Bool, true, false, cond, ◌&&◌, List, [], ◌++◌, length, take, drop, replicate, Some, None, Decides, nat_le, refl}
 use Rattle.std.proofs.Common.{sym, ◌∙◌, arith, length-append, length-drop}
 use Rattle.std.proofs.Math.Path.{ap}
-use Rattle.std.specs.List.{AllByRecursion}
+use Rattle.std.specs.List.{AllByRecursion, list_all}
 use Rattle.std.proofs.ByRecursion.{All-append, All-take, All-drop, All-weaker, Decides-by_and}
 use Rattle.std.proofs.lemmas.List.{append_assoc, take-append-drop, drop-drop, take_all, length-take-le, length-replicate}
+use Rattle.std.proofs.lemmas.List.Folds.{list_all-append}
 use Rattle.std.proofs.lemmas.Bool.Decides.{nat_tests, Decides-and, Decides-ltb}
 use Rattle.interfaces.specs.Printing.{padding}
-use Rattle.text.specs.Text.{IsPrintable, printable_byte, every, printable_bytes, only_zeros, word_bytes, word_of, text_bytes, text_means, text_packed, text_of, text_extended, Extends, Fitting, TextForm}
+use Rattle.text.specs.Text.{IsPrintable, printable_byte, printable_bytes, only_zeros, word_bytes, word_of, text_bytes, text_means, text_packed, text_of, text_extended, Extends, Fitting, TextForm}
 use Rattle.text.specs.declared.Text.{Text}
-use Rattle.text.specs.Every.{all_zeros, every_append}
+use Rattle.text.specs.Every.{all_zeros}
 use Rattle.text.specs.Words.{bytes_of_word_of, word_of_lt}
 use Rattle.interfaces.proofs.Zeros.{take_padding, drop_padding}
 use Rattle.text.specs.Packing.{form, sound_from}
@@ -60,7 +61,7 @@ printable_tells : (b : ℕ) → Decides (printable_byte b) (IsPrintable b)
 printable_tells b = Decides-and (nat_le 32 b) (nat_le b 126) (Decides-ltb 31 b) (grind (arith, nat_tests))
 
 pub all_tells : (bs : List ℕ) → Decides (printable_bytes bs) (AllByRecursion IsPrintable bs)
-all_tells bs = Decides-by_and printable_byte IsPrintable (every printable_byte) printable_tells refl (λ _ _. refl) bs
+all_tells bs = Decides-by_and printable_byte IsPrintable (list_all printable_byte) printable_tells refl (λ _ _. refl) bs
 
 small_padding : (bs : List ℕ) → AllByRecursion IsPrintable bs → AllByRecursion (λ b. b < 256) (padding bs)
 small_padding bs h =
@@ -101,6 +102,6 @@ extends t bs h = go (nat_le (length (text_means t) + length bs) 32) refl
         let n : length (text_means t) + length bs ≤ 32 = grind (arith, nat_tests) in (
           n,
           means_of (text_means t ++ bs) (simp length-append (omega arith))
-              (every_append printable_byte (text_means t) bs (form t).printable h),
+              (list_all-append printable_byte (text_means t) bs ∙ (ap (λ b. b && printable_bytes bs) (form t).printable ∙ h)),
         )
     go false e = λ n. grind (arith, nat_tests)

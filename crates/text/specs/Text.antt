@@ -1,6 +1,6 @@
 -- Texts: the bytes of a record, which records are sound, what a record means, and how texts are put together.
-use Rattle.std.specs.Prelude.{◌≡◌, ℕ, zero, suc, ◌+◌, ◌*◌, ◌/◌, ◌%◌, ◌^◌, ◌<◌, ◌≤◌, Bool, true, cond, ◌&&◌, List, [], ◌∷◌, ◌++◌, length, take, drop, Some, None, Option, ◌==◌, nat_le}
-use Rattle.std.specs.List.{AllByRecursion}
+use Rattle.std.specs.Prelude.{◌≡◌, ℕ, zero, suc, ◌+◌, ◌*◌, ◌/◌, ◌%◌, ◌^◌, ◌<◌, ◌≤◌, Bool, cond, ◌&&◌, List, [], ◌∷◌, ◌++◌, length, take, drop, Some, None, Option, ◌==◌, nat_le}
+use Rattle.std.specs.List.{AllByRecursion, list_all}
 use Rattle.interfaces.specs.Printing.{padding}
 use Rattle.text.specs.declared.Text.{Text}
 
@@ -15,19 +15,14 @@ IsPrintable b = (32 ≤ b) × (b ≤ 126)
 abbrev pub printable_byte : ℕ → Bool
 printable_byte b = nat_le 32 b && nat_le b 126
 
--- whether all bytes pass a test
-abbrev pub every : (ℕ → Bool) → List ℕ → Bool
-every p [] = true
-every p (b ∷ bs) = p b && every p bs
-
 abbrev pub printable_bytes : List ℕ → Bool
-printable_bytes bs = every printable_byte bs
+printable_bytes bs = list_all printable_byte bs
 
 abbrev pub is_zero : ℕ → Bool
 is_zero b = b == 0
 
 abbrev pub only_zeros : List ℕ → Bool
-only_zeros bs = every is_zero bs
+only_zeros bs = list_all is_zero bs
 
 -- `n` + 1 bytes of a number, from its little end; the last takes all that is left
 unfoldable pub bytes_of : ℕ → ℕ → List ℕ

@@ -2,36 +2,19 @@
 // means the blank, 0. Nothing is assumed of a record or of bytes that come in.
 #![tactic(auto)]
 
-ghost use Rattle.std.specs.Prelude.{◌≡◌, ◌+◌, ◌<◌, ◌≤◌, ◌∷◌, ◌++◌, length, drop, decimal, MatchOption, unsigned_abs};
-ghost use Rattle.std.specs.Fmt.{signed_decimal};
+ghost use Rattle.std.specs.Prelude.{◌≡◌, ◌≤◌, decimal, MatchOption};
 ghost use Rattle.interfaces.specs.Printing.{written_bytes};
-ghost use Rattle.whole.specs.Whole.{whole_limit, whole_blank, whole_means, whole_canon, whole_alike, whole_new, written_whole, begun_well, WholeForm, NoNumeral, NoNumber};
+ghost use Rattle.whole.specs.Whole.{whole_blank, whole_means, whole_canon, whole_alike, whole_new, written_whole, WholeForm, NoNumber};
 ghost use Rattle.std.proofs.Common.{rules};
 ghost use Rattle.whole.specs.Numbers.{same_meaning};
 
 use interfaces::refusal::Refusal;
 use interfaces::value::{Printed, Value};
 use interfaces::written::Written;
+use itoa::{Buffer, Integer};
 
 // how far a whole number may lie from 0
 const LIMIT: u32 = 1_000_000_000;
-
-// the most digits that a 32-bit number has
-const MOST_DIGITS: usize = 10;
-
-// the least number that is written without a sign
-const UNSIGNED: i32 = 0;
-
-// the least number that stands behind a sign
-const LEAST: u32 = 1;
-
-const BASE: u32 = 10;
-
-const MINUS: u8 = b'-';
-
-const NOUGHT: u8 = b'0';
-
-const NINE: u8 = b'9';
 
 /// A whole number within limits.
 #[derive(Clone, Copy)]
@@ -103,17 +86,11 @@ impl Printed for Whole {
     ghost reads_back = { λ x y e. same_meaning x y e };
 
     fn read(text: &[u8]) -> Result<Whole, Refusal> {
-        match number(text) {
-            Some(value) => Ok(Whole { value }),
-            None => Err(Refusal::NotANumber),
-        }
+        number(text).ok_or(Refusal::NotANumber)
     }
 
     fn write(&self) -> Written {
-        let value = self.value();
-        let (digits, from) = digits_of(value.unsigned_abs());
-        let sign: &[u8] = if value < UNSIGNED { &[MINUS] } else { &[] };
-        formed(sign, &digits[from..MOST_DIGITS])
+        form_of(self.value())
     }
 }
 
@@ -121,8 +98,7 @@ impl Printed for Whole {
 pub fn write_number(n: u32) -> Written
     ensures { written_bytes result ≡ decimal n }
 {
-    let (digits, from) = digits_of(n);
-    formed(&[], &digits[from..MOST_DIGITS])
+    form_of(n)
 }
 
 /// Tells in its contract what the written form of a number is, in words that name no program.
@@ -132,82 +108,25 @@ pub fn whole_form() -> u8
     0
 }
 
-// The form that a sign and digits make. The callers keep to the length of a written form.
-fn formed(sign: &[u8], digits: &[u8]) -> Written
-    requires { length sign.now + length digits.now ≤ 32 }
-    ensures { written_bytes result ≡ sign.now ++ digits.now }
+// The decimal form of a number of a type whose longest number fits.
+fn form_of<I: Integer>(n: I) -> Written
+    requires { I.MAX_STR_LEN ≤ 32 }
+    ensures { written_bytes result ≡ I.text n }
 {
-    match Written::from_pieces(sign, digits) {
-        Some(form) => form,
-        None => unreachable(),
-    }
+    let mut buffer = Buffer::new();
+    Written::from_pieces(buffer.format(n).as_bytes(), &[]).unwrap()
 }
 
-// The digits of a number, at the end of an array, and the place where they begin.
-fn digits_of(n: u32) -> ([u8; MOST_DIGITS], usize)
-    ensures digits { drop result.1 result.0 ≡ decimal n }
-    ensures within { result.1 < 10 }
-    ensures ten { length result.0 ≡ 10 }
+// The number within the limits that the bytes write. `parse` also takes a plus sign, zeros in front and
+// `-0`, so the number that it answers has to be written as these bytes.
+fn number(text: &[u8]) -> Option<Whole>
+    ensures { MatchOption result (NoNumber text.now) (λ w. written_whole w.value ≡ text.now) }
 {
-    let mut digits = [0; MOST_DIGITS];
-    let mut from = MOST_DIGITS;
-    let mut rest = n;
-    while rest >= BASE {
-        from -= 1;
-        digits[from] = NOUGHT + (rest % BASE) as u8;
-        rest /= BASE;
-    }
-    from -= 1;
-    digits[from] = NOUGHT + rest as u8;
-    (digits, from)
-}
-
-// The number within the limits that the bytes write.
-fn number(text: &[u8]) -> Option<i32>
-    ensures { MatchOption result (NoNumber text.now) (λ z. (unsigned_abs z ≤ whole_limit) × (signed_decimal z ≡ text.now)) }
-{
-    match text {
-        [MINUS, digits @ ..] => negative(digits),
-        _ => Some(numeral(text)? as i32),
-    }
-}
-
-// The number below 0 whose digits these are.
-fn negative(digits: &[u8]) -> Option<i32>
-    ensures { MatchOption result (NoNumber (45 ∷ digits.now)) (λ z. (unsigned_abs z ≤ whole_limit) × (signed_decimal z ≡ 45 ∷ digits.now)) }
-{
-    let n = numeral(digits)?;
-    if n < LEAST { None } else { Some(-(n as i32)) }
-}
-
-// The number within the limits that the digits write.
-fn numeral(digits: &[u8]) -> Option<u32>
-    ensures { MatchOption result (NoNumeral digits.now) (λ n. (n ≤ whole_limit) × (decimal n ≡ digits.now)) }
-{
-    if digits.len() > MOST_DIGITS || !well_begun(digits) {
-        return None;
-    }
-    let mut n: u64 = 0;
-    for digit in digits {
-        if *digit < NOUGHT || *digit > NINE {
-            return None;
-        }
-        n = n * BASE as u64 + u64::from(*digit - NOUGHT);
-    }
-    if n <= LIMIT as u64 {
-        Some(n as u32)
+    let value = str::from_utf8(text).ok()?.parse().ok()?;
+    let whole = Whole::new(value)?;
+    if whole.write().as_slice() == text {
+        Some(whole)
     } else {
         None
-    }
-}
-
-// Whether there are digits, and the first is no zero unless it is alone.
-fn well_begun(digits: &[u8]) -> bool
-    ensures { result ≡ begun_well digits.now }
-{
-    match digits {
-        [] => false,
-        [_] => true,
-        [first, ..] => *first != NOUGHT,
     }
 }

@@ -8,11 +8,11 @@ returns-then-len-gt-LONGEST c = sound_long c.args.self (omega arith)
 
 pub returns-then-all_printable : goal.returns-then-all_printable
 returns-then-all_printable c =
-    sound_seen c.args.self c.bytes-bytes.result true c.all_zero.result c.bytes-bytes.ensures (omega arith)
+    sound_seen c.args.self c.bytes-bytes.result c.from-len.result true c.all_zero.result c.bytes-bytes.ensures c.from-len.ensures (omega arith)
     c.if-all_printable.ensures c.all_zero.ensures
 
 pub returns-else-all_printable : goal.returns-else-all_printable
 returns-else-all_printable c =
     c.if-all_printable.false
-    ∙ sound_seen c.args.self c.bytes-bytes.result false _ c.bytes-bytes.ensures (omega arith)
+    ∙ sound_seen c.args.self c.bytes-bytes.result c.from-len.result false _ c.bytes-bytes.ensures c.from-len.ensures (omega arith)
     c.if-all_printable.ensures refl

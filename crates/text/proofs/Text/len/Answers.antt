@@ -5,4 +5,4 @@ use Rattle.text.specs.Packing.{form}
 use Rattle.text.proofs.Text.len.Goals as goal
 
 pub returns : goal.returns
-returns c = ap (λ (t : Text). t.len) c.settled-normal.ensures ∙ (form c.args.self).count
+returns c = c.from.ensures ∙ (ap (λ (t : Text). t.len) c.settled-normal.ensures ∙ (form c.args.self).count)
