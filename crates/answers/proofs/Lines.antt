@@ -1,38 +1,13 @@
 -- One write after another over the front of a buffer. Assumes nothing.
 use Rattle.std.proofs.Common.{◌≡◌, ℕ, ◌+◌, ◌<◌, ◌≤◌, List, [], ◌∷◌, ◌++◌, length, get_or, take, drop, Ok, Err, Result, sym, refl, ap, ◌∙◌, arith, length-append, length-drop}
-use lib.Seq.{paste}
-use Rattle.std.proofs.lemmas.List.{take_at, drop-drop, drop_at, take_all, take_more, take-append-drop, append-nil, append_assoc}
+use Rattle.std.proofs.lemmas.List.{take_all, take_more, take-append-drop, append-nil, append_assoc}
 use Rattle.std.specs.List.{flat_map}
 use Rattle.std.proofs.lemmas.Bool.{le-leb, lt-leb}
 use Rattle.interfaces.specs.Refusals.{Said, no}
-use Rattle.answers.specs.Fronts.{zeros, over, Wrote, line_answer, line_left}
+use Rattle.answers.specs.Fronts.{zeros, Wrote, line_answer, line_left}
 
 pub wrote_length : {ws orig bytes : List ℕ} {len : ℕ} → Wrote ws orig bytes len → length bytes ≡ length orig
 wrote_length {ws} {orig} w = ap length w.holds ∙ (simp (length-append, length-drop) (omega (arith, w.fits)))
-
-pasted : (ws orig src : List ℕ) → paste (over ws orig) (length ws) src (length src) ≡ over (ws ++ src) orig
-pasted ws orig src =
-    let a = take_at ws (drop (length ws) orig) (length ws) refl in
-    let b = take_all (length src) src (omega arith) in
-    let d = drop-drop (length src) (length ws) (over ws orig) in
-    let e = drop_at ws (drop (length ws) orig) (length ws) refl in
-    let f = drop-drop (length src) (length ws) orig in
-    let g = length-append ws src in
-    cc
-
--- bytes that fit go behind those that stand
-pub wrote_more : {ws orig bytes : List ℕ} {len : ℕ} (src bytes' : List ℕ) (len' : ℕ) → Wrote ws orig bytes len
-    → len + length src ≤ length bytes → len' ≡ len + length src → bytes' ≡ paste bytes len src (length src)
-    → Wrote (ws ++ src) orig bytes' len'
-wrote_more {ws} {orig} {bytes} {len} src bytes' len' w le l e = record {
-  holds = let m = w.long in let h = w.holds in let q = pasted ws orig src in cc;
-  long = l ∙ ap (λ n. n + length src) w.long ∙ sym (length-append ws src);
-  fits = let n = wrote_length w in let k = length-append ws src in let m = w.long in omega arith;
-}
-
--- bytes that do not fit are more than the buffer takes
-pub wrote_full : {ws orig bytes : List ℕ} {len : ℕ} (src : List ℕ) → Wrote ws orig bytes len → length bytes < len + length src → length orig < length (ws ++ src)
-wrote_full {ws} {orig} {bytes} {len} src w l = let n = wrote_length w in let k = length-append ws src in let m = w.long in omega arith
 
 -- a finished line, by what it answers and leaves
 pub line_done : {ws orig bytes : List ℕ} {len : ℕ} → Wrote ws orig bytes len → (◌≡◌ {A = Result ℕ Said} (Ok len) (line_answer ws orig)) × (bytes ≡ line_left ws orig)

@@ -6,14 +6,6 @@ ghost use Rattle.std.specs.List.{flat_map};
 
 use interfaces::refusal::Refusal;
 
-fn zero_all(bytes: &mut [u8])
-    ensures { bytes.new ≡ zeros bytes.old }
-{
-    for byte in bytes.iter_mut() {
-        *byte = 0;
-    }
-}
-
 /// A line that is being written.
 pub struct AnswerLine<'a> {
     bytes: &'a mut [u8],
@@ -25,7 +17,7 @@ impl Drop for AnswerLine<'_> {
         ensures { self.exit.0.now ≡ zeros self.entry.bytes.now }
     {
         let AnswerLine { bytes, len: _ } = self;
-        zero_all(bytes);
+        bytes.fill(0);
     }
 }
 
@@ -45,17 +37,13 @@ impl<'a> AnswerLine<'a> {
             (λ _. Wrote (ws ++ more.now) orig self.new.bytes.now self.new.len)
             (λ e. (said e ≡ no 10) × (length orig < length (ws ++ more.now)) × Wrote ws orig self.new.bytes.now self.new.len) }
     {
-        let room = self.bytes.len();
+        // `get_mut` would tell nothing of the bytes after the write, so the bound has a test of its own
         let start = self.len;
-        if start > room {
+        let end = start.saturating_add(more.len());
+        if end > self.bytes.len() {
             return Err(Refusal::AnswerTooLong);
         }
-        if more.len() > room - start {
-            return Err(Refusal::AnswerTooLong);
-        }
-        let end = start + more.len();
-        let part = &mut self.bytes[start..end];
-        part.copy_from_slice(more);
+        self.bytes[start..end].copy_from_slice(more);
         self.len = end;
         Ok(())
     }

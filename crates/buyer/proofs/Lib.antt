@@ -1,4 +1,3 @@
 pub mod Panels
-pub mod Steps
 pub mod Reading
 pub mod Rightly

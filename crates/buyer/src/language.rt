@@ -1,6 +1,6 @@
 // The language: `10|F0` is the value of the cell 10, or, where that is 0, the value of the cell F0; where both are 0,
 // nobody has set the panel, and that is a fault. A cell is written as its number, in two hexadecimal digits.
-ghost use Rattle.std.specs.Prelude.{◌≡◌, ℕ, ◌<◌, ◌≤◌, true, map, length, None as Nothing, slice_index_or};
+ghost use Rattle.std.specs.Prelude.{◌≡◌, ℕ, ◌<◌, ◌≤◌, true, false, map, length, MatchOption, None as Nothing, slice_index_or};
 ghost use Rattle.interfaces.specs.Cells.{number_of};
 ghost use Rattle.interfaces.specs.Tasks.{step_means, step_of};
 ghost use Rattle.whole.specs.Whole.{whole_blank, whole_canon};
@@ -41,26 +41,14 @@ pub struct Fallbacks {
     held: [Option<Fallback>; 256],
 }
 
-fn is_hex(byte: u8) -> bool
-    ensures { result ≡ is_hex_lem byte }
-{
-    if byte <= b'9' {
-        byte >= b'0'
-    } else {
-        byte >= b'A' && byte <= b'F'
-    }
-}
-
 // The value of a digit.
-fn hex_value(byte: u8) -> usize
-    requires { is_hex_lem byte ≡ true }
-    ensures value { result ≡ hex_value_lem byte }
-    ensures bound { result < 16 }
+fn digit(byte: u8) -> Option<u8>
+    ensures { MatchOption result (is_hex_lem byte ≡ false) (λ d. (is_hex_lem byte ≡ true) × (d ≡ hex_value_lem byte) × (d < 16)) }
 {
-    if byte <= b'9' {
-        (byte - b'0') as usize
-    } else {
-        (byte - b'A') as usize + 10
+    match byte {
+        b'0'..=b'9' => Some(byte - b'0'),
+        b'A'..=b'F' => Some(byte - b'A' + 10),
+        _ => None,
     }
 }
 
@@ -69,8 +57,10 @@ fn cell_of(high: u8, low: u8) -> Cell
     requires { (is_hex_lem high ≡ true) × (is_hex_lem low ≡ true) }
     ensures { number_of result ≡ numbered high low }
 {
-    let number = hex_value(high) * 16 + hex_value(low);
-    match Cell::new(number) {
+    let (Some(high), Some(low)) = (digit(high), digit(low)) else {
+        unreachable()
+    };
+    match Cell::new(high as usize * 16 + low as usize) {
         Some(cell) => cell,
         None => unreachable(),
     }
@@ -83,7 +73,7 @@ fn may_stand(place: usize, byte: u8) -> bool
     if place == BAR {
         byte == b'|'
     } else {
-        place < LENGTH && is_hex(byte)
+        place < LENGTH && digit(byte).is_some()
     }
 }
 
@@ -92,8 +82,8 @@ fn beginning(text: &[u8]) -> usize
     ensures value { result ≡ right_from 0 text.now }
     ensures bound { result ≤ 5 }
 {
-    for i in 0..text.len() {
-        if !may_stand(i, text[i]) {
+    for (i, byte) in text.iter().enumerate() {
+        if !may_stand(i, *byte) {
             return i;
         }
     }
@@ -105,13 +95,13 @@ fn read(text: &[u8]) -> Result<Fallback, u8>
     ensures { verdict_of result ≡ fallback_stands text.now }
 {
     let right = beginning(text);
-    if text.len() != LENGTH || right != LENGTH {
-        return Err(right as u8);
+    match text {
+        [a, b, _, c, d] if right == LENGTH => Ok(Fallback {
+            first: cell_of(*a, *b),
+            second: cell_of(*c, *d),
+        }),
+        _ => Err(right as u8),
     }
-    Ok(Fallback {
-        first: cell_of(text[0], text[1]),
-        second: cell_of(text[3], text[4]),
-    })
 }
 
 fn is_unset(value: Whole) -> bool
@@ -127,22 +117,16 @@ fn step_of(held: Option<Fallback>, answers: &[Whole]) -> Step<Whole>
     let Some(cells) = held else {
         return Step::Give(Whole::blank_value());
     };
-    if answers.is_empty() {
-        return Step::Ask(cells.first);
+    match answers {
+        [] => Step::Ask(cells.first),
+        [first, ..] if !is_unset(*first) => Step::Give(*first),
+        [_] => Step::Ask(cells.second),
+        [_, second, ..] if !is_unset(*second) => Step::Give(*second),
+        _ => Step::Fault(LanguageFault {
+            number: UNSET,
+            mark: SECOND as u16,
+        }),
     }
-    if !is_unset(answers[0]) {
-        return Step::Give(answers[0]);
-    }
-    if answers.len() < 2 {
-        return Step::Ask(cells.second);
-    }
-    if !is_unset(answers[1]) {
-        return Step::Give(answers[1]);
-    }
-    Step::Fault(LanguageFault {
-        number: UNSET,
-        mark: SECOND as u16,
-    })
 }
 
 impl Fallbacks {
@@ -169,13 +153,9 @@ impl Language<Whole> for Fallbacks {
         if text.is_empty() || text.len() > TEXT {
             return Err(Refusal::TextLength);
         }
-        match read(text) {
-            Ok(fallback) => {
-                self.held[cell.number()] = Some(fallback);
-                Ok(())
-            }
-            Err(place) => Err(Refusal::NotInLanguage(place)),
-        }
+        let fallback = read(text).map_err(Refusal::NotInLanguage)?;
+        self.held[cell.number()] = Some(fallback);
+        Ok(())
     }
 
     fn remove(&mut self, cell: Cell) {

@@ -7,6 +7,7 @@ ghost use Rattle.whole.specs.Whole.{whole_blank};
 ghost use Rattle.buyer.specs.Panel.{checked};
 
 use interfaces::cell::{CELLS, Cell};
+use interfaces::memory::check_room;
 use interfaces::refusal::Refusal;
 use interfaces::store::Store;
 use whole::Whole;
@@ -24,10 +25,7 @@ impl<'a> PanelStore<'a> {
     pub fn check(values: &[Whole]) -> Result<(), Refusal>
         ensures { told result ≡ checked (length values.now) }
     {
-        if values.len() < CELLS {
-            return Err(Refusal::ShortMemory);
-        }
-        Ok(())
+        check_room(values, CELLS)
     }
 
     /// The store over memory that has passed its check; the cells from `factory` on are the factory's.

@@ -33,17 +33,11 @@ struct Desk<S, L, R> {
 }
 
 fn cell(number: u8) -> Cell {
-    match Cell::new(number as usize) {
-        Some(cell) => cell,
-        None => unreachable(),
-    }
+    Cell::new(number as usize).unwrap()
 }
 
 fn whole(number: i16) -> Whole {
-    match Whole::new(number as i32) {
-        Some(value) => value,
-        None => unreachable(),
-    }
+    Whole::new(number as i32).unwrap()
 }
 
 // `ok`, or the number of the refusal, and its place in the text if it has one.
@@ -164,14 +158,13 @@ fn work<S: Store<Whole> + Drop, L: Language<Whole> + Drop, R: Rebuilder<Whole> +
     language: L,
     rebuilder: R,
 ) -> io::Result<()> {
-    let any = cell(0);
     let mut desk = Desk {
         workbook: Workbook::new(store, language, rebuilder),
         report: [Ran {
-            cell: any,
-            cause: any,
+            cell: Cell::FIRST,
+            cause: Cell::FIRST,
         }; CELLS],
-        chain: [any; CELLS],
+        chain: [Cell::FIRST; CELLS],
         work: [whole(0); WORK],
     };
     desk.calibrate(rt)?;
@@ -181,10 +174,7 @@ fn work<S: Store<Whole> + Drop, L: Language<Whole> + Drop, R: Rebuilder<Whole> +
 
 // Makes the parts from memory that has passed its checks.
 fn start(rt: &HostRuntime, values: &mut [Whole], traces: &mut [Whole]) -> io::Result<()> {
-    if let Err(refusal) = PanelStore::check(values) {
-        return print_done(rt, Err(refusal));
-    }
-    if let Err(refusal) = VerifyingTraces::check(traces) {
+    if let Err(refusal) = PanelStore::check(values).and(VerifyingTraces::check(traces)) {
         return print_done(rt, Err(refusal));
     }
     let store = PanelStore::new(values, FACTORY);

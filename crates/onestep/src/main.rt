@@ -4,102 +4,79 @@
 // as arguments, one after another, or else from standard input.
 #![tactic(auto)]
 
-ghost use Rattle.std.specs.Prelude.{◌≤◌, length};
-
 use fragment::Fragment;
 use interfaces::cell::{Cell, DEFINITIONS};
 use interfaces::language::Language;
 use interfaces::refusal::Refusal;
-use interfaces::step::Step;
+use interfaces::step::{LanguageFault, Step};
 use interfaces::value::Printed;
 use names::write_name;
 use sheet::Sheet;
-use std::alloc::{AllocError, Global};
+use std::alloc::{AllocError, AllocFailed, Global};
 use std::io::{Read, Write};
 use std::{env, fs, io};
 use text::Text;
-use whole::{Whole, write_number};
+use whole::Whole;
 
-const BREAK: u8 = 10;
+const BREAK: u8 = b'\n';
 
-const TAB: u8 = 9;
+const TAB: u8 = b'\t';
 
-// The first place from `from` on where the byte stands, or the length.
-fn place_of(bytes: &[u8], from: usize, byte: u8) -> usize
-    ensures upper_bound { result ≤ length bytes.now }
-    ensures lower_bound { from ≤ length bytes.now → from ≤ result }
-{
-    for i in from..bytes.len() {
-        if bytes[i] == byte {
-            return i;
-        }
-    }
-    bytes.len()
+// Why a line has no step: it is refused, or memory ran out.
+enum NoStep {
+    Refused(Refusal),
+    Memory(AllocError),
 }
 
-// The answers behind the definition of a line, or the refusal of one that is no value.
-fn read_answers<V: Printed>(
-    heap: Global,
-    line: &[u8],
-) -> Result<Result<Vec<V>, Refusal>, AllocError> {
-    let mut answers = Vec::new(heap);
-    let mut at = place_of(line, 0, TAB);
-    while at < line.len() {
-        let end = place_of(line, at + 1, TAB);
-        match V::read(&line[at + 1..end]) {
-            Ok(value) => answers.push(value)?,
-            Err(refusal) => return Ok(Err(refusal)),
-        }
-        at = end;
+impl From<Refusal> for NoStep {
+    fn from(refusal: Refusal) -> NoStep {
+        NoStep::Refused(refusal)
     }
-    Ok(Ok(answers))
 }
 
-fn print_refusal(out: &mut Vec<u8>, refusal: Refusal) -> Result<(), AllocError> {
-    out.extend_from_slice(b"no ")?;
-    out.extend_from_slice(write_number(refusal.number() as u32).as_slice())?;
-    if let Some(place) = refusal.place() {
-        out.extend_from_slice(b" ")?;
-        out.extend_from_slice(write_number(place as u32).as_slice())?;
+impl<T: Drop> From<AllocFailed<T>> for NoStep {
+    fn from(failed: AllocFailed<T>) -> NoStep {
+        NoStep::Memory(failed.into())
     }
-    Ok(())
 }
 
-fn print_step<V: Printed>(out: &mut Vec<u8>, step: Step<V>) -> Result<(), AllocError> {
+fn print_refusal(out: &mut Vec<u8>, refusal: Refusal) -> io::Result<()> {
+    let number = refusal.number();
+    match refusal.place() {
+        Some(place) => write!(out, "no {number} {place}"),
+        None => write!(out, "no {number}"),
+    }
+}
+
+// Written names and values are bytes and no `str`, so no `{}` prints them.
+fn print_step<V: Printed>(out: &mut Vec<u8>, step: Step<V>) -> io::Result<()> {
     match step {
         Step::Ask(cell) => {
-            out.extend_from_slice(b"ask ")?;
-            out.extend_from_slice(write_name(cell).as_slice())
+            out.write_all(b"ask ")?;
+            out.write_all(write_name(cell).as_slice())
         }
         Step::Give(value) => {
-            out.extend_from_slice(b"value ")?;
-            out.extend_from_slice(value.write().as_slice())
+            out.write_all(b"value ")?;
+            out.write_all(value.write().as_slice())
         }
-        Step::Fault(fault) => {
-            out.extend_from_slice(b"fault ")?;
-            out.extend_from_slice(write_number(fault.number as u32).as_slice())?;
-            out.extend_from_slice(b" ")?;
-            out.extend_from_slice(write_number(fault.mark as u32).as_slice())
-        }
+        Step::Fault(LanguageFault { number, mark }) => write!(out, "fault {number} {mark}"),
     }
 }
 
-// Places the definition of a line at a cell, and takes one step with its answers.
-fn answer<V: Printed, L: Language<V>>(
+// Places the definition of a line at a cell, and takes one step with the answers behind it.
+fn step_of<V: Printed, L: Language<V>>(
     heap: Global,
     language: &mut L,
     cell: Cell,
     line: &[u8],
-    out: &mut Vec<u8>,
-) -> Result<(), AllocError> {
-    let end = place_of(line, 0, TAB);
-    if let Err(refusal) = language.place(cell, &line[0..end]) {
-        return print_refusal(out, refusal);
+) -> Result<Step<V>, NoStep> {
+    let mut fields = line.split(|byte| *byte == TAB);
+    language.place(cell, fields.next().unwrap_or(&[]))?;
+    let mut answers = Vec::new(heap);
+    for field in fields {
+        answers.push(V::read(field)?)?;
     }
-    match read_answers::<V>(heap, line)? {
-        Ok(answers) => print_step(out, language.step(cell, answers.as_slice())),
-        Err(refusal) => print_refusal(out, refusal),
-    }
+    Ok(language.step(cell, answers.as_slice()))
 }
 
 fn answer_all<V: Printed, L: Language<V>>(
@@ -107,54 +84,43 @@ fn answer_all<V: Printed, L: Language<V>>(
     language: &mut L,
     lines: &[u8],
     out: &mut Vec<u8>,
-) -> Result<(), AllocError> {
-    let Some(cell) = Cell::new(0) else {
-        return Ok(());
-    };
-    let mut at = 0;
-    while at < lines.len() {
-        let end = place_of(lines, at, BREAK);
-        answer(heap, language, cell, &lines[at..end], out)?;
-        out.extend_from_slice(b"\n")?;
-        at = end + 1;
+) -> io::Result<()> {
+    for line in lines.split_inclusive(|byte| *byte == BREAK) {
+        let line = line.strip_suffix(b"\n").unwrap_or(line);
+        match step_of(heap, language, Cell::FIRST, line) {
+            Ok(step) => print_step(out, step)?,
+            Err(NoStep::Refused(refusal)) => print_refusal(out, refusal)?,
+            Err(NoStep::Memory(error)) => return Err(error.into()),
+        }
+        out.write_all(b"\n")?;
     }
     Ok(())
 }
 
 // Answers the lines of an input in the language that its first line names.
-fn answer_input(heap: Global, input: &[u8], out: &mut Vec<u8>) -> Result<(), AllocError> {
+fn answer_input(heap: Global, input: &[u8], out: &mut Vec<u8>) -> io::Result<()> {
     let mut memory = vec![in heap; 0u8; DEFINITIONS]?;
-    let end = place_of(input, 0, BREAK);
-    let len = input.len();
-    if end >= len {
-        return Ok(());
-    }
-    let first = &input[0..end];
-    let rest = &input[end + 1..len];
-    let sheet: &[u8] = b"sheet";
-    let text: &[u8] = b"text";
-    if first == sheet {
+    if let Some(lines) = input.strip_prefix(b"sheet\n") {
         let mut language = Sheet::new(memory.as_mut_slice());
-        return answer_all::<Whole, Sheet>(heap, &mut language, rest, out);
+        return answer_all::<Whole, Sheet>(heap, &mut language, lines, out);
     }
-    if first == text {
+    if let Some(lines) = input.strip_prefix(b"text\n") {
         let mut language = Fragment::new(memory.as_mut_slice());
-        return answer_all::<Text, Fragment>(heap, &mut language, rest, out);
+        return answer_all::<Text, Fragment>(heap, &mut language, lines, out);
     }
     Ok(())
 }
 
 fn main(rt: HostRuntime) -> io::Result<()> {
     let mut out = Vec::new(rt.alloc());
-    let mut files = 0usize;
-    for name in env::args(&rt)?.skip(1) {
-        let input = fs::read(&rt, name.as_str())?;
-        answer_input(rt.alloc(), input.as_slice(), &mut out)?;
-        files = files.saturating_add(1);
-    }
-    if files == 0 {
+    let args = env::args(&rt)?;
+    if args.len() < 2 {
         let mut input = Vec::new(rt.alloc());
         rt.stdin().read_to_end(&mut input)?;
+        answer_input(rt.alloc(), input.as_slice(), &mut out)?;
+    }
+    for name in args.skip(1) {
+        let input = fs::read(&rt, name.as_str())?;
         answer_input(rt.alloc(), input.as_slice(), &mut out)?;
     }
     rt.stdout().write_all(out.as_slice())

@@ -1,33 +1,11 @@
--- The forms of lines: what stands behind a word, and that a line has one reading. Assumes nothing.
-use Rattle.std.proofs.Common.{◌≡◌, ℕ, ◌+◌, ◌<◌, ◌≤◌, List, [], ◌∷◌, ◌++◌, length, get_or, drop, codes, sym, refl, ap, ◌∙◌, ⊎_elim, arith}
-use Rattle.std.proofs.lemmas.List.{append_cancel_left, drop_more}
+-- The forms of lines: a line has one reading. Assumes nothing.
+use Rattle.std.proofs.Common.{◌≡◌, ℕ, ◌+◌, ◌<◌, ◌≤◌, List, ◌∷◌, ◌++◌, length, codes, sym, refl, ap, ◌∙◌, ⊎_elim, arith}
+use Rattle.std.proofs.lemmas.List.{append_cancel_left}
 use Rattle.std.proofs.lemmas.Bool.{cases_lt}
 use Rattle.interfaces.specs.Cells.{cell_count}
-use Rattle.names.specs.Names.{name_of, NameAt}
+use Rattle.names.specs.Names.{name_of}
 use Rattle.names.proofs.Standing.{name_ends}
 use Rattle.script.specs.Lines.{Request, sets, gets, Reads, set, get}
-
--- one byte
-pub alone : (bytes : List ℕ) (x : ℕ) → length bytes ≡ 1 → get_or bytes 0 0 ≡ x → bytes ≡ x ∷ []
-alone [] x l e = absurd (omega arith)
-alone (b ∷ []) x l e = cc
-alone (b ∷ c ∷ bs) x l e = absurd (omega arith)
-
--- a name that a space follows is the name that was read
-pub name_space : (rest : List ℕ) (n next c : ℕ) (value : List ℕ) → NameAt rest 0 n next → c < cell_count → rest ≡ name_of c ++ (32 ∷ value) → n ≡ c
-name_space rest n next c value a l e =
-    name_ends n c 32 (drop next rest) value a.within l (a.longest c (32 ∷ value) l e) (omega arith) (sym a.reads ∙ e)
-
--- so the space stands behind it
-pub space_behind : (rest : List ℕ) (n next c : ℕ) (value : List ℕ) → NameAt rest 0 n next → c < cell_count → rest ≡ name_of c ++ (32 ∷ value) → drop next rest ≡ 32 ∷ value
-space_behind rest n next c value a l e =
-    let s = name_space rest n next c value a l e in
-    let r = a.reads in
-    append_cancel_left (name_of n) (drop next rest) (32 ∷ value) (cc)
-
--- what stands past the place, if a byte stands there
-pub byte_behind : (rest : List ℕ) (next x : ℕ) (value : List ℕ) → drop next rest ≡ x ∷ value → next < length rest → get_or rest next 0 ≡ x
-byte_behind rest next x value e l = let d = drop_more rest next 0 l in cc
 
 -- the readings of a line that begins with a word
 pub set_only : (rest : List ℕ) (r : Request) → Reads (codes "set " ++ rest) r → (c : ℕ) × (value : List ℕ) × (c < cell_count) × (rest ≡ name_of c ++ (32 ∷ value)) × (r ≡ sets c value)

@@ -11,23 +11,14 @@ use crate::lines::{Depth, Kind, LINE, Line, Opening};
 use interfaces::refusal::Refusal;
 use names::{name_at, read_name};
 
-// What follows the word that the bytes begin with.
-fn after<'a>(bytes: &'a [u8], word: &[u8]) -> Option<&'a [u8]>
-    ensures { MatchOption result ((rest : List ℕ) → bytes.now ≢ word.now ++ rest) (λ x. bytes.now ≡ word.now ++ x.now) }
+// The depth of this name.
+fn read_depth(name: &[u8]) -> Result<Depth, Refusal>
+    ensures { MatchResult result (λ d. name.now ≡ depth_name d) (λ e. (said e ≡ no 20) × ((d : NamedDepth) → name.now ≢ depth_name d)) }
 {
-    bytes.strip_prefix(word)
-}
-
-fn read_depth(bytes: &[u8]) -> Result<Depth, Refusal>
-    ensures { MatchResult result (λ d. bytes.now ≡ depth_name d) (λ e. (said e ≡ no 20) × ((d : NamedDepth) → bytes.now ≢ depth_name d)) }
-{
-    if bytes.len() != 1 {
-        return Err(Refusal::BadFirstLine);
-    }
-    match bytes[0] {
-        b'0' => Ok(Depth::Zero),
-        b'1' => Ok(Depth::One),
-        b'4' => Ok(Depth::Four),
+    match name {
+        [b'0'] => Ok(Depth::Zero),
+        [b'1'] => Ok(Depth::One),
+        [b'4'] => Ok(Depth::Four),
         _ => Err(Refusal::BadFirstLine),
     }
 }
@@ -36,21 +27,15 @@ fn read_depth(bytes: &[u8]) -> Result<Depth, Refusal>
 pub fn read_opening(line: &[u8]) -> Result<Opening, Refusal>
     ensures { MatchResult result (λ o. Opens line.now o.kind o.depth) (λ e. (said e ≡ no 20) × ((k : NamedKind) (d : NamedDepth) → Opens line.now k d → ⊥)) }
 {
-    if let Some(rest) = after(line, b"sheet ") {
-        let depth = read_depth(rest)?;
-        return Ok(Opening {
-            kind: Kind::Sheet,
-            depth,
-        });
-    }
-    if let Some(rest) = after(line, b"text ") {
-        let depth = read_depth(rest)?;
-        return Ok(Opening {
-            kind: Kind::Text,
-            depth,
-        });
-    }
-    Err(Refusal::BadFirstLine)
+    let (kind, name) = if let Some(name) = line.strip_prefix(b"sheet ") {
+        (Kind::Sheet, name)
+    } else if let Some(name) = line.strip_prefix(b"text ") {
+        (Kind::Text, name)
+    } else {
+        return Err(Refusal::BadFirstLine);
+    };
+    let depth = read_depth(name)?;
+    Ok(Opening { kind, depth })
 }
 
 // The cell and the value behind `set `.
@@ -58,14 +43,8 @@ fn read_set(rest: &[u8]) -> Option<Line<'_>>
     ensures { MatchOption result ((c : ℕ) (value : List ℕ) → c < cell_count → rest.now ≢ name_of c ++ (codes " " ++ value)) (λ l. (c : ℕ) × (value : List ℕ) × (c < cell_count) × (rest.now ≡ name_of c ++ (codes " " ++ value)) × (asked l ≡ sets c value)) }
 {
     let (cell, next) = name_at(rest, 0)?;
-    if next >= rest.len() {
-        return None;
-    }
-    if rest[next] != b' ' {
-        return None;
-    }
-    let end = rest.len();
-    Some(Line::Set(cell, &rest[next + 1..end]))
+    let value = rest[next..].strip_prefix(b" ")?;
+    Some(Line::Set(cell, value))
 }
 
 /// Any other line: what it asks for, or 18 or 19.
@@ -75,17 +54,12 @@ pub fn read_line(line: &[u8]) -> Result<Line<'_>, Refusal>
     if line.len() > LINE {
         return Err(Refusal::LineTooLong);
     }
-    if let Some(rest) = after(line, b"set ") {
-        return match read_set(rest) {
-            Some(found) => Ok(found),
-            None => Err(Refusal::UnknownLine),
-        };
+    if let Some(rest) = line.strip_prefix(b"set ") {
+        return read_set(rest).ok_or(Refusal::UnknownLine);
     }
-    if let Some(rest) = after(line, b"get ") {
-        return match read_name(rest) {
-            Some(cell) => Ok(Line::Get(cell)),
-            None => Err(Refusal::UnknownLine),
-        };
+    if let Some(rest) = line.strip_prefix(b"get ") {
+        let cell = read_name(rest).ok_or(Refusal::UnknownLine)?;
+        return Ok(Line::Get(cell));
     }
     Err(Refusal::UnknownLine)
 }

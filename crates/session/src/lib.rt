@@ -1,13 +1,13 @@
 // Runs a script: its lines are answered one after another.
 #![tactic(auto)]
 
-ghost use Rattle.std.specs.Prelude.{◌≡◌, ℕ, ◌<◌, ◌≤◌, false, List, [], ◌∷◌, ◌++◌, length, replicate, IfOk, OnOk};
+ghost use Rattle.std.specs.Prelude.{◌≡◌, ℕ, ◌<◌, ◌≤◌, false, List, [], ◌∷◌, ◌++◌, length, replicate, IfOk, MatchResult, OnOk};
 ghost use Rattle.interfaces.specs.Cells.{cell_count, number_of};
 ghost use Rattle.interfaces.specs.Refusals.{said, told};
 ghost use Rattle.answers.specs.Answers.{ok_line, refusal_line};
 ghost use Rattle.answers.specs.Fronts.{line_answer, line_left};
-ghost use Rattle.script.specs.Lines.{Cut, BreakAt, ReadAs, asked};
-ghost use Rattle.session.specs.Session.{answer_limit, Edited, Wrote, Session, SessionOf, Transcript, OneTranscript};
+ghost use Rattle.script.specs.Lines.{Cut, ReadAs, asked};
+ghost use Rattle.session.specs.Session.{answer_limit, line_of_answer, Edited, Wrote, Session, SessionOf, Transcript, OneTranscript};
 
 use answers::answers::{write_ok, write_refusal, write_value};
 use interfaces::cell::{CELLS, Cell};
@@ -26,30 +26,15 @@ const BREAK: u8 = 10;
 /// The bytes of the buffer that each answer line is written in.
 pub const ANSWER: usize = 1_100;
 
-// The place of the first byte 10, or the length where there is none.
-fn break_at(bytes: &[u8]) -> usize
-    ensures { BreakAt bytes.now result }
-{
-    for (i, byte) in bytes.iter().enumerate() {
-        if *byte == BREAK {
-            return i;
-        }
-    }
-    bytes.len()
-}
-
 // The first line, and what follows it.
 fn cut_line(bytes: &[u8]) -> (&[u8], &[u8])
     requires { 0 < length bytes.now }
     ensures cut { Cut bytes.now result.0.now result.1.now }
     ensures less { length result.1.now < length bytes.now }
 {
-    let place = break_at(bytes);
-    let end = bytes.len();
-    if place < end {
-        (&bytes[0..place], &bytes[place + 1..end])
-    } else {
-        (bytes, &bytes[end..end])
+    match bytes.iter().position(|byte| *byte == BREAK) {
+        Some(place) => (&bytes[..place], &bytes[place + 1..]),
+        None => (bytes, &[]),
     }
 }
 
@@ -69,6 +54,18 @@ pub fn edit_written<P: Printed, S: Store<P>>(
     store.write(cell, value)
 }
 
+// Writes `ok`, or why not, over the front of the buffer.
+fn write_outcome(buffer: &mut [u8], outcome: Result<(), Refusal>) -> Result<usize, Refusal>
+    ensures answer { told result ≡ line_answer (line_of_answer (told outcome)) buffer.old }
+    ensures left { buffer.new ≡ line_left (line_of_answer (told outcome)) buffer.old }
+    ensures short { length (line_of_answer (told outcome)) ≤ 39 }
+{
+    match outcome {
+        Ok(()) => write_ok(buffer),
+        Err(refusal) => write_refusal(buffer, refusal),
+    }
+}
+
 // Answers a line that was read, in the front of the buffer.
 fn serve<P: Printed, S: Store<P>>(
     store: &mut S,
@@ -80,10 +77,7 @@ fn serve<P: Printed, S: Store<P>>(
 {
     match found {
         Line::Get(cell) => write_value(buffer, cell, &store.read(cell)),
-        Line::Set(cell, value) => match edit_written(store, cell, value) {
-            Ok(()) => write_ok(buffer),
-            Err(refusal) => write_refusal(buffer, refusal),
-        },
+        Line::Set(cell, value) => write_outcome(buffer, edit_written(store, cell, value)),
     }
 }
 
@@ -112,10 +106,11 @@ fn answer_lines<P: Printed, S: Store<P>>(
 {
     let mut buffer = [0; ANSWER];
     let mut rest = lines;
+    // `cut_line` says in its contract what a line is; `split_inclusive` would leave the break in it
     while !rest.is_empty() {
         let (line, next) = cut_line(rest);
         match answer_line(store, line, &mut buffer) {
-            Ok(len) => out.extend_from_slice(&buffer[0..len])?,
+            Ok(len) => out.extend_from_slice(&buffer[..len])?,
             Err(_) => unreachable(),
         }
         rest = next;
@@ -123,12 +118,12 @@ fn answer_lines<P: Printed, S: Store<P>>(
     Ok(())
 }
 
-// A blank for each cell.
+// A blank for each cell. A loop: `vec!` clones one blank, and no law says that a clone of a `P` is equal to it.
 fn blanks<P: Printed>(heap: Global) -> Result<Vec<P>, AllocError>
     ensures { IfOk result (λ v. v.items ≡ replicate cell_count P.Value.blank) }
 {
     let mut values = Vec::new(heap);
-    for i in 0..CELLS {
+    for _ in 0..CELLS {
         values.push(P::blank_value())?;
     }
     Ok(values)
@@ -147,24 +142,13 @@ fn answer_over_blanks<P: Printed>(
     answer_lines(&mut store, lines, out)
 }
 
-// Prints a refusal.
-fn print_refusal(out: &mut Vec<u8>, refusal: Refusal) -> Result<(), AllocError>
-    ensures { OnOk result (out.new.items ≡ out.old.items ++ refusal_line (said refusal)) }
+// Prints `ok`, or why not.
+fn print_outcome(out: &mut Vec<u8>, outcome: Result<(), Refusal>) -> Result<(), AllocError>
+    ensures { OnOk result (out.new.items ≡ out.old.items ++ line_of_answer (told outcome)) }
 {
     let mut buffer = [0; ANSWER];
-    match write_refusal(&mut buffer, refusal) {
-        Ok(len) => out.extend_from_slice(&buffer[0..len]),
-        Err(_) => unreachable(),
-    }
-}
-
-// Prints `ok`.
-fn print_ok(out: &mut Vec<u8>) -> Result<(), AllocError>
-    ensures { OnOk result (out.new.items ≡ out.old.items ++ ok_line) }
-{
-    let mut buffer = [0; ANSWER];
-    match write_ok(&mut buffer) {
-        Ok(len) => out.extend_from_slice(&buffer[0..len]),
+    match write_outcome(&mut buffer, outcome) {
+        Ok(len) => out.extend_from_slice(&buffer[..len]),
         Err(_) => unreachable(),
     }
 }
@@ -179,29 +163,33 @@ fn answer_as(kind: Kind, heap: Global, lines: &[u8], out: &mut Vec<u8>) -> Resul
     }
 }
 
+// The kind that the first line of a script names, and the lines that follow it.
+fn open(input: &[u8]) -> Result<(Kind, &[u8]), Refusal>
+    ensures { MatchResult result (λ o. (out : List ℕ) → SessionOf o.0 o.1.now out → Transcript input.now (ok_line ++ out)) (λ e. Transcript input.now (refusal_line (said e))) }
+{
+    if input.len() > SCRIPT {
+        return Err(Refusal::ScriptTooLong);
+    }
+    if input.is_empty() {
+        return Err(Refusal::BadFirstLine);
+    }
+    let (first, rest) = cut_line(input);
+    let opening = read_opening(first)?;
+    Ok((opening.kind, rest))
+}
+
 /// What a whole script prints.
 pub fn run(heap: Global, input: &[u8]) -> Result<Vec<u8>, AllocError>
     ensures { IfOk result (λ out. Transcript input.now out.items) }
 {
     let mut out = Vec::new(heap);
-    if input.len() > SCRIPT {
-        print_refusal(&mut out, Refusal::ScriptTooLong)?;
-        return Ok(out);
-    }
-    if input.is_empty() {
-        print_refusal(&mut out, Refusal::BadFirstLine)?;
-        return Ok(out);
-    }
-    let (first, rest) = cut_line(input);
-    let opening = match read_opening(first) {
-        Ok(opening) => opening,
-        Err(refusal) => {
-            print_refusal(&mut out, refusal)?;
-            return Ok(out);
+    match open(input) {
+        Ok((kind, lines)) => {
+            print_outcome(&mut out, Ok(()))?;
+            answer_as(kind, heap, lines, &mut out)?;
         }
-    };
-    print_ok(&mut out)?;
-    answer_as(opening.kind, heap, rest, &mut out)?;
+        Err(refusal) => print_outcome(&mut out, Err(refusal))?,
+    }
     Ok(out)
 }
 

@@ -8,7 +8,7 @@ cell_of-requires c =
     let all : right_from 0 c.args.text.now ≡ 5 = omega arith in
     (right_stands 0 c.args.text.now 0 0 (omega arith) (omega arith), right_stands 0 c.args.text.now 1 1 (omega arith) (omega arith))
 
-pub cell_of-requires-2 : goal.cell_of-requires-2
-cell_of-requires-2 c =
+pub cell_of-requires-in-len5 : goal.cell_of-requires-in-len5
+cell_of-requires-in-len5 c =
     let all : right_from 0 c.args.text.now ≡ 5 = omega arith in
     (right_stands 0 c.args.text.now 3 3 (omega arith) (omega arith), right_stands 0 c.args.text.now 4 4 (omega arith) (omega arith))
