@@ -8,12 +8,13 @@ use Rattle.std.proofs.lemmas.Bool.{cond-true, cond-false, cases_lt, cases_eq, ca
 use Rattle.interfaces.specs.declared.cell.Cell.{Cell}
 use Rattle.interfaces.specs.Cells.{cell_count, but}
 use Rattle.interfaces.specs.Traces.{pairs_of}
-use Rattle.rows.specs.declared.row.Asked.{Asked}
+use Rattle.interfaces.specs.declared.asked.Asked.{Asked}
+use Rattle.interfaces.specs.Asks.{asked_cells}
 use Rattle.rows.specs.declared.row.Row.{Row}
 use Rattle.rows.specs.Blocks.{block_at, block, Apart, Wrote}
 use Rattle.rows.specs.Rings.{place_in, before, one_up}
 use Rattle.rows.proofs.Rows.{uncounted}
-use Rattle.rows.specs.Kept.{asked_cells, no_asked, no_row, trace_of, trace_at, trace_aged, row_traces, traces_of}
+use Rattle.rows.specs.Kept.{no_asked, no_row, Pushed, trace_of, trace_at, trace_aged, row_traces, traces_of}
 
 -- places in a ring
 
@@ -172,29 +173,30 @@ module _ {V : Type 0} (canon : V → V) (blank : V) (depth : ℕ) where
     pushed_row =
         in_front (trace_aged canon blank depth old values c) (trace_aged canon blank depth row new c) _ depth old.count row.count deep old.few counted newest_trace older_trace
 
-    other_row : (rows : List (Row depth)) (k : ℕ) → length rows ≡ cell_count → k ≢ c
-        → row_traces canon blank depth (get_or rows k (no_row depth)) new k ≡ row_traces canon blank depth (get_or rows k (no_row depth)) values k
-    other_row rows k l n = elim (cases_lt k cell_count) [
-      | inl h ↦ same_row (get_or rows k (no_row depth)) values new k (λ p. wrote.others _ (apart_cell p (before depth old.newest) k c n h inside))
-      | inr h ↦
-          let e = ap (λ (r : Row depth). r.count) (get_or_past rows k (no_row depth) (omega arith)) in
-          uncounted canon blank depth (get_or rows k (no_row depth)) new k e ∙ sym (uncounted canon blank depth (get_or rows k (no_row depth)) values k e)
-    ]
+  -- the rows of other cells stand for what they stood for
+  other_row : (place c : ℕ) {answers values new : List V} {result : V} → Wrote blank (block_at place c) answers result values new → c < cell_count
+      → (rows : List (Row depth)) (k : ℕ) → length rows ≡ cell_count → k ≢ c
+      → row_traces canon blank depth (get_or rows k (no_row depth)) new k ≡ row_traces canon blank depth (get_or rows k (no_row depth)) values k
+  other_row place c {answers} {values} {new} {result} wrote inside rows k l n = elim (cases_lt k cell_count) [
+    | inl h ↦ same_row (get_or rows k (no_row depth)) values new k (λ p. wrote.others _ (apart_cell p place k c n h inside))
+    | inr h ↦
+        let e = ap (λ (r : Row depth). r.count) (get_or_past rows k (no_row depth) (omega arith)) in
+        uncounted canon blank depth (get_or rows k (no_row depth)) new k e ∙ sym (uncounted canon blank depth (get_or rows k (no_row depth)) values k e)
+  ]
 
-    pub pushed : (rows : List (Row depth)) → length rows ≡ cell_count → old ≡ get_or rows c (no_row depth) → (k : ℕ)
-        → traces_of canon blank depth (set rows c row) new k
-        ≡ but c (take depth (record { asks = pairs_of canon cells answers; result = canon result } ∷ traces_of canon blank depth rows values c)) (traces_of canon blank depth rows values) k
-    pushed rows l o k = go (eqb k c) refl
-      where
-        go : (b : Bool) → eqb k c ≡ b
-            → traces_of canon blank depth (set rows c row) new k
-            ≡ cond (eqb k c) (take depth (record { asks = pairs_of canon cells answers; result = canon result } ∷ traces_of canon blank depth rows values c)) (traces_of canon blank depth rows values k)
-        go true t =
-            let m : c < length rows = omega arith in
-            rw t (rw (eqb-true k c t)
-            (ap (λ (r : Row depth). row_traces canon blank depth r new c) (get_or-set_same rows c row (no_row depth) m)
-            ∙ pushed_row
-            ∙ ap (λ (r : Row depth). take depth (record { asks = pairs_of canon cells answers; result = canon result } ∷ row_traces canon blank depth r values c)) o))
-        go false f =
-            let ne : k ≢ c = eqb-false k c f in
-            rw f (ap (λ (r : Row depth). row_traces canon blank depth r new k) (get_or-set_other rows c k row (no_row depth) ne) ∙ other_row rows k l ne)
+  pub pushed : (rows next : List (Row depth)) (values new : List V) (c : ℕ) (asked : Asked) (cells : List Cell) (answers : List V) (result : V)
+      → 0 < depth → c < cell_count → length rows ≡ cell_count → length (get_or rows c (no_row depth)).asked ≡ depth → asked_cells asked ≡ cells → length cells ≡ length answers
+      → Pushed depth c asked rows next → Wrote blank (block_at (before depth (get_or rows c (no_row depth)).newest) c) answers result values new
+      → (k : ℕ) → traces_of canon blank depth next new k
+      ≡ but c (take depth (record { asks = pairs_of canon cells answers; result = canon result } ∷ traces_of canon blank depth rows values c)) (traces_of canon blank depth rows values) k
+  pushed rows next values new c asked cells answers result deep inside whole size holds even p w k = go (eqb k c) refl
+    where
+      go : (b : Bool) → eqb k c ≡ b
+          → traces_of canon blank depth next new k
+          ≡ cond (eqb k c) (take depth (record { asks = pairs_of canon cells answers; result = canon result } ∷ traces_of canon blank depth rows values c)) (traces_of canon blank depth rows values k)
+      go true t =
+          rw t (rw (eqb-true k c t)
+          (pushed_row (get_or rows c (no_row depth)) (get_or next c (no_row depth)) values new c asked cells answers result deep inside size p.newest p.count p.asks holds even w))
+      go false f =
+          let ne : k ≢ c = eqb-false k c f in
+          rw f (ap (λ (r : Row depth). row_traces canon blank depth r new k) (p.others k ne) ∙ other_row (before depth (get_or rows c (no_row depth)).newest) c w inside rows k whole ne)

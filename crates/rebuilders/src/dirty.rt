@@ -1,4 +1,5 @@
 // The rebuilder that remembers nothing of a run: a cell in doubt is run again. It needs no memory.
+// It is no `Traces` of depth 0: one of these serves every kind of value at once, and borrows nothing.
 ghost use Rattle.std.specs.Prelude.{◌≡◌, ℕ, [], length};
 ghost use Rattle.std.proofs.Common.{zero-le};
 ghost use Rattle.interfaces.specs.Refusals.{told};

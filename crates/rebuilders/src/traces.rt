@@ -8,14 +8,16 @@ ghost use Rattle.rows.specs.Blocks.{checked, Wrote};
 ghost use Rattle.rows.specs.Kept.{traces_of, no_row};
 ghost use Rattle.rows.specs.Limits.{within};
 
+use interfaces::asked::Asked;
 use interfaces::cell::{ASKS, Cell, TRACE};
 use interfaces::rebuilder::Rebuilder;
 use interfaces::refusal::Refusal;
 use interfaces::step::Plan;
 use interfaces::value::Value;
-use rows::compare::{BLOCK, at, plan_row};
-use rows::row::{Asked, Row};
-use rows::table::{fresh_rows, put_row, row_of};
+use rows::held::{BLOCK, Held};
+use rows::pairs::Pairs;
+use rows::row::Row;
+use rows::table::{clear_row, fresh_rows, push_row, row_of};
 
 /// At most D traces for each cell.
 #[derive(Drop)]
@@ -25,11 +27,22 @@ pub struct Traces<'a, V, const D: usize> {
     ghost room: { trace_length * D ≤ length values.now },
 }
 
+// Writes answers and a result into the block at `base`.
+fn keep<V: Value>(values: &mut [V], base: usize, answers: &[V], res: V)
+    requires few { length answers.now ≤ ask_limit }
+    requires within { base + ask_limit < length values.old }
+    ensures { Wrote V.Value.blank base answers.now res values.old values.new }
+{
+    values[base..base + answers.len()].copy_from_slice(answers);
+    values[base + ASKS] = res;
+}
+
 impl<'a, V: Value, const D: usize> Traces<'a, V, D> {
     /// Whether memory serves: it has a trace of every cell for each of the depth.
     pub fn check(values: &[V]) -> Result<(), Refusal>
         ensures { told result ≡ checked D (length values.now) }
     {
+        // divides, where `check_room` would need a product that may be too large for a usize
         if values.len() / TRACE < D {
             return Err(Refusal::ShortMemory);
         }
@@ -49,29 +62,15 @@ impl<'a, V: Value, const D: usize> Traces<'a, V, D> {
         }
     }
 
-    // Writes answers and a result into the block at `base`.
-    fn keep(&mut self, base: usize, answers: &[V], res: V)
-        requires few { length answers.now ≤ ask_limit }
-        requires within { base + ask_limit < length self.old.values.now }
-        ensures rows { self.new.rows ≡ self.old.rows }
-        ensures values { Wrote V.Value.blank base answers.now res self.old.values.now self.new.values.now }
-    {
-        for i in 0..answers.len() {
-            self.values[base + i] = at(answers, i);
-        }
-        self.values[base + ASKS] = res;
-    }
-
     // Puts one trace in front of a cell's; at the full depth the oldest goes.
-    fn push(&mut self, cell: Cell, cells: &[Cell], values: &[V], res: V)
+    fn push(&mut self, cell: Cell, pairs: &Pairs<V>, res: V)
         requires depth { 0 < D }
-        requires pairs { (length cells.now ≡ length values.now) × (length cells.now ≤ ask_limit) }
-        ensures { (k : ℕ) → traces_of V.Value.canon V.Value.blank D self.new.rows self.new.values.now k ≡ but (number_of cell) (take D (record { asks = pairs_of V.Value.canon cells.now values.now; result = V.Value.canon res } ∷ traces_of V.Value.canon V.Value.blank D self.old.rows self.old.values.now (number_of cell))) (traces_of V.Value.canon V.Value.blank D self.old.rows self.old.values.now) k }
+        requires few { length pairs.now.cells.now ≤ ask_limit }
+        ensures { (k : ℕ) → traces_of V.Value.canon V.Value.blank D self.new.rows self.new.values.now k ≡ but (number_of cell) (take D (record { asks = pairs_of V.Value.canon pairs.now.cells.now pairs.now.values.now; result = V.Value.canon res } ∷ traces_of V.Value.canon V.Value.blank D self.old.rows self.old.values.now (number_of cell))) (traces_of V.Value.canon V.Value.blank D self.old.rows self.old.values.now) k }
     {
-        let row = row_of(&self.rows, cell).pushed(Asked::new(cells));
-        let base = row.place(0) * TRACE + cell.number() * BLOCK;
-        self.keep(base, values, res);
-        put_row(&mut self.rows, cell, row);
+        let place = push_row(&mut self.rows, cell, Asked::new(pairs.cells()));
+        let base = place * TRACE + cell.number() * BLOCK;
+        keep(self.values, base, pairs.values(), res);
     }
 }
 
@@ -89,24 +88,25 @@ impl<'a, V: Value, const D: usize> Rebuilder<V> for Traces<'a, V, D> {
     }
 
     fn plan(&self, cell: Cell, cells: &[Cell], values: &[V]) -> Plan<V> {
-        if cells.len() != values.len() {
+        let Some(pairs) = Pairs::new(cells, values) else {
             return Plan::Run;
-        }
-        plan_row(&row_of(&self.rows, cell), self.values, cell, cells, values)
+        };
+        Held::new(row_of(&self.rows, cell), self.values, cell).plan(&pairs)
     }
 
     fn record(&mut self, cell: Cell, cells: &[Cell], values: &[V], res: V) -> Result<(), Refusal> {
-        if cells.len() != values.len() || cells.len() > ASKS {
+        let pairs = Pairs::new(cells, values).ok_or(Refusal::BadTrace)?;
+        if cells.len() > ASKS {
             return Err(Refusal::BadTrace);
         }
         if D > 0 {
-            self.push(cell, cells, values, res);
+            self.push(cell, &pairs, res);
         }
         Ok(())
     }
 
     fn forget(&mut self, cell: Cell) {
-        put_row(&mut self.rows, cell, Row::new());
+        clear_row(&mut self.rows, cell);
     }
 
     fn wipe(&mut self) {

@@ -1,6 +1,8 @@
 // Examples for the rebuilders and the shield, as tables. The contracts are proved elsewhere; here they are run.
 #![tactic(auto)]
 
+ghost use Rattle.std.specs.Mem.{FitsInMemory};
+
 #[cfg(test)]
 mod tests {
     use interfaces::cell::{Cell, TRACE};
@@ -10,6 +12,7 @@ mod tests {
     use interfaces::value::{Printed, Value};
     use rebuilders::{ConstructiveTraces, DirtyBits, VerifyingTraces};
     use std::process::Abort;
+    use std::slice;
     use std::test::Fail;
     use stores::TableStore;
     use stores::shield::Shield;
@@ -19,8 +22,13 @@ mod tests {
     // The one cell that every run of the table asks for.
     const ASKED: usize = 3;
 
-    // A plan as two numbers: 0 to run, 1 and the value to keep, 2 and the cell to ask for next.
-    type Says = (u8, u32);
+    // What a plan must say: to run, to keep the value of a number, or to ask next for the cell of a number.
+    #[derive(Clone, Copy)]
+    enum Says {
+        Run,
+        Keep(u32),
+        Next(usize),
+    }
 
     // What is done at a cell, and what the plan must then say at each of the three depths.
     #[derive(Clone, Copy)]
@@ -35,23 +43,25 @@ mod tests {
         Wipe,
     }
 
+    use Says::{Keep, Next, Run};
+
     const ACTS: [Act; 16] = [
-        Act::Begin(7, [(0, 0), (0, 0), (0, 0)]),
+        Act::Begin(7, [Run, Run, Run]),
         Act::Record(7, 5, 10),
-        Act::Begin(7, [(0, 0), (2, 3), (2, 3)]),
-        Act::Plan(7, 5, [(0, 0), (1, 10), (1, 10)]),
-        Act::Plan(7, 6, [(0, 0), (0, 0), (0, 0)]),
+        Act::Begin(7, [Run, Next(3), Next(3)]),
+        Act::Plan(7, 5, [Run, Keep(10), Keep(10)]),
+        Act::Plan(7, 6, [Run, Run, Run]),
         Act::Record(7, 6, 20),
-        Act::Plan(7, 5, [(0, 0), (0, 0), (1, 10)]),
-        Act::Plan(7, 6, [(0, 0), (1, 20), (1, 20)]),
+        Act::Plan(7, 5, [Run, Run, Keep(10)]),
+        Act::Plan(7, 6, [Run, Keep(20), Keep(20)]),
         Act::Record(255, 6, 30),
         Act::Forget(7),
-        Act::Begin(7, [(0, 0), (0, 0), (0, 0)]),
-        Act::Plan(7, 5, [(0, 0), (0, 0), (0, 0)]),
-        Act::Plan(255, 6, [(0, 0), (1, 30), (1, 30)]),
+        Act::Begin(7, [Run, Run, Run]),
+        Act::Plan(7, 5, [Run, Run, Run]),
+        Act::Plan(255, 6, [Run, Keep(30), Keep(30)]),
         Act::Wipe,
-        Act::Plan(255, 6, [(0, 0), (0, 0), (0, 0)]),
-        Act::Begin(0, [(0, 0), (0, 0), (0, 0)]),
+        Act::Plan(255, 6, [Run, Run, Run]),
+        Act::Begin(0, [Run, Run, Run]),
     ];
 
     fn cell(number: usize) -> Result<Cell, Fail> {
@@ -66,111 +76,72 @@ mod tests {
         }
     }
 
-    // The answer and the result that an act speaks of.
-    fn numbers(act: Act) -> (u32, u32) {
-        match act {
-            Act::Record(_, answer, result) => (answer, result),
-            Act::Plan(_, answer, _) => (answer, 0),
-            _ => (0, 0),
+    // Whether a plan says what is wanted.
+    fn is_said<P: Printed>(plan: Plan<P>, wanted: Says) -> Result<bool, Fail> {
+        match (plan, wanted) {
+            (Plan::Run, Run) => Ok(true),
+            (Plan::Keep(kept), Keep(number)) => Ok(kept.is_like(&value::<P>(number)?)),
+            (Plan::Next(next), Next(number)) => Ok(next == cell(number)?),
+            _ => Ok(false),
         }
     }
 
-    fn says<P: Printed>(rt: &impl Abort, plan: Plan<P>, wanted: Says) -> Result<(), Fail> {
-        match plan {
-            Plan::Run => {
-                assert!(rt; wanted.0 == 0);
-                Ok(())
-            },
-            Plan::Keep(kept) => {
-                assert!(rt; wanted.0 == 1 && kept.is_like(&value::<P>(wanted.1)?));
-                Ok(())
-            },
-            Plan::Next(next) => {
-                assert!(rt; wanted.0 == 2 && next.number() == wanted.1 as usize);
-                Ok(())
-            },
-        }
-    }
-
+    // Does one act; `depth` is the place of the rebuilder among the three.
     fn perform<P: Printed, R: Rebuilder<P>>(
         rt: &impl Abort,
         rebuilder: &mut R,
         act: Act,
         depth: usize,
-        answer: &[P],
-        res: P,
-    ) -> Result<(), Fail> {
+    ) -> Result<(), Fail>
+        requires { FitsInMemory P.row }
+    {
         assert!(rt; depth < 3);
-        let asked = cell(ASKED)?;
+        let asked = [cell(ASKED)?];
         match act {
-            Act::Record(c, _, _) => {
-                assert!(rt; rebuilder.record(cell(c)?, &[asked], answer, res).is_ok());
-                Ok(())
-            },
-            Act::Begin(c, wanted) => says(rt, rebuilder.plan(cell(c)?, &[], &[]), wanted[depth]),
-            Act::Plan(c, _, wanted) => says(
-                rt,
-                rebuilder.plan(cell(c)?, &[asked], answer),
-                wanted[depth],
-            ),
-            Act::Forget(c) => {
-                rebuilder.forget(cell(c)?);
-                Ok(())
+            Act::Record(at, answer, result) => {
+                let answer = value::<P>(answer)?;
+                let result = value::<P>(result)?;
+                assert!(rt;
+                    rebuilder
+                        .record(cell(at)?, &asked, slice::from_ref(&answer), result)
+                        .is_ok()
+                );
             }
-            Act::Wipe => {
-                rebuilder.wipe();
-                Ok(())
+            Act::Begin(at, wanted) => {
+                assert!(rt; is_said(rebuilder.plan(cell(at)?, &[], &[]), wanted[depth])?);
             }
+            Act::Plan(at, answer, wanted) => {
+                let answer = value::<P>(answer)?;
+                assert!(rt;
+                    is_said(
+                        rebuilder.plan(cell(at)?, &asked, slice::from_ref(&answer)),
+                        wanted[depth]
+                    )?
+                );
+            }
+            Act::Forget(at) => rebuilder.forget(cell(at)?),
+            Act::Wipe => rebuilder.wipe(),
         }
-    }
-
-    fn perform_numbers<R: Rebuilder<Whole>>(
-        rt: &impl Abort,
-        rebuilder: &mut R,
-        depth: usize,
-    ) -> Result<(), Fail> {
-        for act in &ACTS {
-            let (answer, result) = numbers(*act);
-            perform(
-                rt,
-                rebuilder,
-                *act,
-                depth,
-                &[value::<Whole>(answer)?],
-                value::<Whole>(result)?,
-            )?;
-        }
-        let asked = [cell(ASKED)?; 9];
-        let answers = [value::<Whole>(5)?; 9];
-        assert!(rt;
-            rebuilder
-                .record(cell(9)?, &asked, &answers, value::<Whole>(6)?)
-                .is_err()
-        );
-        assert!(rt;
-            rebuilder
-                .record(cell(9)?, &asked, &[], value::<Whole>(6)?)
-                .is_err()
-        );
         Ok(())
     }
 
-    fn perform_texts<R: Rebuilder<Text>>(
+    // Does all acts; then more than eight pairs are refused, and lists of unequal length.
+    // Nine answers come from the caller, who knows the type: an array of any type may be too large for a slice.
+    fn perform_all<P: Printed, R: Rebuilder<P>>(
         rt: &impl Abort,
         rebuilder: &mut R,
         depth: usize,
-    ) -> Result<(), Fail> {
+        nine: &[P],
+    ) -> Result<(), Fail>
+        requires { FitsInMemory P.row }
+    {
         for act in &ACTS {
-            let (answer, result) = numbers(*act);
-            perform(
-                rt,
-                rebuilder,
-                *act,
-                depth,
-                &[value::<Text>(answer)?],
-                value::<Text>(result)?,
-            )?;
+            perform(rt, rebuilder, *act, depth)?;
         }
+        let asked = [cell(ASKED)?; 9];
+        let result = value::<P>(6)?;
+        assert!(rt; rebuilder.record(cell(9)?, &asked, nine, result).is_err());
+        assert!(rt; rebuilder.record(cell(9)?, &asked, &[], result).is_err());
         Ok(())
     }
 
@@ -178,36 +149,36 @@ mod tests {
     fn dirty_bits(rt: HostRuntime) -> Result<(), Fail> {
         let mut none: [Whole; 0] = [];
         let mut rebuilder = DirtyBits::new(&mut none);
-        perform_numbers(&rt, &mut rebuilder, 0)?;
-        perform_texts(&rt, &mut rebuilder, 0)
+        perform_all(&rt, &mut rebuilder, 0, &[value::<Whole>(5)?; 9])?;
+        perform_all(&rt, &mut rebuilder, 0, &[value::<Text>(5)?; 9])
     }
 
     #[test]
     fn verifying(rt: HostRuntime) -> Result<(), Fail> {
         let mut numbers = [value::<Whole>(99)?; TRACE];
         let mut rebuilder: VerifyingTraces<Whole> = VerifyingTraces::new(&mut numbers);
-        perform_numbers(&rt, &mut rebuilder, 1)
+        perform_all(&rt, &mut rebuilder, 1, &[value::<Whole>(5)?; 9])
     }
 
     #[test]
     fn verifying_texts(rt: HostRuntime) -> Result<(), Fail> {
         let mut texts = [value::<Text>(99)?; TRACE];
         let mut rebuilder: VerifyingTraces<Text> = VerifyingTraces::new(&mut texts);
-        perform_texts(&rt, &mut rebuilder, 1)
+        perform_all(&rt, &mut rebuilder, 1, &[value::<Text>(5)?; 9])
     }
 
     #[test]
     fn constructive(rt: HostRuntime) -> Result<(), Fail> {
         let mut numbers = [value::<Whole>(99)?; 9216];
         let mut rebuilder: ConstructiveTraces<Whole> = ConstructiveTraces::new(&mut numbers);
-        perform_numbers(&rt, &mut rebuilder, 2)
+        perform_all(&rt, &mut rebuilder, 2, &[value::<Whole>(5)?; 9])
     }
 
     #[test]
     fn constructive_texts(rt: HostRuntime) -> Result<(), Fail> {
         let mut texts = [value::<Text>(99)?; 9216];
         let mut rebuilder: ConstructiveTraces<Text> = ConstructiveTraces::new(&mut texts);
-        perform_texts(&rt, &mut rebuilder, 2)
+        perform_all(&rt, &mut rebuilder, 2, &[value::<Text>(5)?; 9])
     }
 
     // Writes a number, and says whether it was taken; a shielded cell stays at 0.

@@ -1,9 +1,8 @@
 -- Pairs held against a trace's asks, one at a time, and the plan that comes of it. Assumes of a kind of value its laws.
-use Rattle.std.proofs.Common.{◌≡◌, ℕ, suc, ◌+◌, ◌-◌, ◌<◌, ◌≤◌, Bool, true, false, cond, eqb, ◌≢◌, List, [], ◌∷◌, map, length, get_or, drop, sym, refl, ap, ◌∙◌, arith, eq-eqb, ne_eqb}
+use Rattle.std.proofs.Common.{◌≡◌, ℕ, suc, ◌+◌, ◌-◌, ◌<◌, ◌≤◌, Bool, true, false, cond, eqb, ◌&&◌, List, [], ◌∷◌, map, length, get_or, drop, sym, refl, ap, ◌∙◌, arith}
 use mathlib.Core.Option.{Option, none, some}
-use Rattle.std.specs.List.{range_with_len}
+use Rattle.std.specs.List.{range_with_len, list_all, zip}
 use Rattle.std.proofs.lemmas.List.{drop_more, drop_all}
-use Rattle.std.proofs.lemmas.Bool.{cond-true, cond-false}
 use Rattle.interfaces.specs.declared.cell.Cell.{Cell}
 use Rattle.interfaces.specs.Cells.{ask_limit, number_of}
 use Rattle.interfaces.specs.Traces.{Pair, Trace, pairs_of, after, kept_to, exact, next_of, onward, chosen, plan, Planned, runs, keeps, next}
@@ -30,41 +29,27 @@ module _ {V : Type 0} (canon : V → V) (alike : V → V → Bool) (steady : (x 
       go false true p q = sym (whole x y (sym (steady x) ∙ sound (canon x) (canon y) q ∙ steady y)) ∙ p
       go false false p q = refl
 
+each_of : {A : Type 0} (a b r : Bool) (x : Option A) → cond a (cond b (cond r x none) none) none ≡ cond ((a && b) && r) x none
+each_of true true r x = refl
+each_of true false r x = refl
+each_of false b r x = refl
+
 module _ {V : Type 0} (canon : V → V) (alike : V → V → Bool) where
-  -- the asks after the pairs from `i` on
-  abbrev pub after_from : List Cell → List V → List Cell → List V → ℕ → Option (List (Pair V))
-  after_from asked answers cells values i =
-      after alike (pairs_of canon (drop i cells) (drop i values)) (pairs_of canon (drop i asked) (drop i answers))
+  -- whether a pair is the ask beside it
+  abbrev pub meets : (Cell × V) × (Cell × V) → Bool
+  meets ((c, v), (a, w)) = eqb (number_of c) (number_of a) && alike v w
 
-  module _ (asked : List Cell) (answers : List V) (cells : List Cell) (values : List V) (i : ℕ) (d : Cell) (blank : V)
-      (l₁ : i < length asked) (l₂ : i < length answers) (l₃ : i < length cells) (l₄ : i < length values) where
-    one_more : after_from asked answers cells values i
-        ≡ cond (eqb (number_of (get_or cells i d)) (number_of (get_or asked i d)))
-        (cond (alike (canon (get_or values i blank)) (canon (get_or answers i blank))) (after_from asked answers cells values (i + 1)) none) none
-    one_more = rw (drop_more asked i d l₁, drop_more answers i blank l₂, drop_more cells i d l₃, drop_more values i blank l₄) refl
-
-    -- the cells `n` and `m` and the values `x` and `y` are those at `i`
-    module _ (n m : ℕ) (x y : V) (p : n ≡ number_of (get_or cells i d)) (q : m ≡ number_of (get_or asked i d)) where
-      pub other_cell : n ≢ m → after_from asked answers cells values i ≡ none
-      other_cell e = one_more ∙ cond-false _ _ _ (ne_eqb _ _ (λ z. e (p ∙ z ∙ sym q)))
-
-      module _ (u : x ≡ get_or values i blank) (v : y ≡ get_or answers i blank) (w : alike (canon x) (canon y) ≡ alike x y) where
-        meets : (b : Bool) → alike x y ≡ b → alike (canon (get_or values i blank)) (canon (get_or answers i blank)) ≡ b
-        meets b e = rw (← u, ← v) (w ∙ e)
-
-        pub other_value : alike x y ≡ false → after_from asked answers cells values i ≡ none
-        other_value e =
-            one_more
-            ∙ ap (λ (b : Bool). cond (eqb (number_of (get_or cells i d)) (number_of (get_or asked i d))) (cond b (after_from asked answers cells values (i + 1)) none) none) (meets false e)
-            ∙ none_either _ false
-
-        pub agrees : n ≡ m → alike x y ≡ true → after_from asked answers cells values i ≡ after_from asked answers cells values (i + 1)
-        agrees z e = one_more ∙ cond-true _ _ _ (eq-eqb _ _ (sym p ∙ z ∙ q)) ∙ cond-true _ _ _ (meets true e)
-
-  -- no pair is left
-  pub all_agree : (asked : List Cell) (answers : List V) (cells : List Cell) (values : List V) (i : ℕ) → length cells ≤ i
-      → after_from asked answers cells values i ≡ some (pairs_of canon (drop i asked) (drop i answers))
-  all_agree asked answers cells values i l = rw (drop_all i cells l) refl
+  pub begins_all : (cs : List Cell) (vs : List V) (asked : List Cell) (ws : List V) → length cs ≡ length vs → length cs ≤ length asked → length asked ≤ length ws
+      → ((x y : V) → alike (canon x) (canon y) ≡ alike x y)
+      → after alike (pairs_of canon cs vs) (pairs_of canon asked ws)
+      ≡ cond (list_all meets (zip (zip cs vs) (zip asked ws))) (some (pairs_of canon (drop (length cs) asked) (drop (length cs) ws))) none
+  begins_all [] vs asked ws e l m h = refl
+  begins_all (c ∷ cs) [] asked ws e l m h = absurd (omega arith)
+  begins_all (c ∷ cs) (v ∷ vs) [] ws e l m h = absurd (omega arith)
+  begins_all (c ∷ cs) (v ∷ vs) (a ∷ asked) [] e l m h = absurd (omega arith)
+  begins_all (c ∷ cs) (v ∷ vs) (a ∷ asked) (w ∷ ws) e l m h =
+      rw (h v w, begins_all cs vs asked ws (omega arith) (omega arith) (omega arith) h)
+      (each_of (eqb (number_of c) (number_of a)) (alike v w) (list_all meets (zip (zip cs vs) (zip asked ws))) _)
 
   -- more pairs than asks
   outrun : (ps qs : List (Pair V)) → length qs < length ps → after alike ps qs ≡ none
@@ -103,17 +88,48 @@ module _ {V : Type 0} (canon : V → V) (alike : V → V → Bool) where
       → plan alike (t ∷ ts) ps ≡ preferred (plan alike (t ∷ []) ps) (plan alike ts ps)
   plan_more t ts ps = weighed (after alike ps t.asks) t.result (exact alike ts ps) (onward alike ts ps)
 
-  -- a row of traces, from the oldest on
-  pub plan_oldest : (f : ℕ → Trace V) (a n : ℕ) (ps : List (Pair V)) → n ≡ 0 → runs ≡ plan alike (map f (range_with_len a n)) ps
-  plan_oldest f a n ps e = rw e refl
+  -- the plan that is preferred of three, whichever two are weighed first
+  regroup : (a b c : Planned V) → preferred a (preferred b c) ≡ preferred (preferred a b) c
+  regroup runs b c = refl
+  regroup (keeps v) b c = refl
+  regroup (next n) runs c = refl
+  regroup (next n) (keeps v) c = refl
+  regroup (next n) (next m) runs = refl
+  regroup (next n) (next m) (keeps v) = refl
+  regroup (next n) (next m) (next o) = refl
 
-  pub plan_newer : (f : ℕ → Trace V) (n j : ℕ) (ps : List (Pair V)) (p q : Planned V) → 0 < j → j ≤ n
-      → p ≡ plan alike (f (j - 1) ∷ []) ps → q ≡ plan alike (map f (range_with_len j (n - j))) ps
-      → preferred p q ≡ plan alike (map f (range_with_len (j - 1) (n - (j - 1)))) ps
-  plan_newer f n j ps p q l m u v =
-      let e : n - (j - 1) ≡ suc (n - j) = omega arith in
-      let b : j ≡ j - 1 + 1 = omega arith in
-      ap (λ x. preferred x q) u
-      ∙ ap (preferred (plan alike (f (j - 1) ∷ []) ps)) (v ∙ ap (λ i. plan alike (map f (range_with_len i (n - j))) ps) b)
-      ∙ sym (plan_more (f (j - 1)) (map f (range_with_len (j - 1 + 1) (n - j))) ps)
-      ∙ ap (λ i. plan alike (map f (range_with_len (j - 1) i)) ps) (sym e)
+  alone : (a : Planned V) → preferred a runs ≡ a
+  alone runs = refl
+  alone (keeps v) = refl
+  alone (next n) = refl
+
+  -- the plan by `n` traces is the one preferred of that by the first `j` and that by the others
+  pub record Weighed (f : ℕ → Trace V) (n : ℕ) (ps : List (Pair V)) (best : Planned V) (j : ℕ) : Type 0 where
+    pub weighs : plan alike (map f (range_with_len 0 n)) ps ≡ preferred best (plan alike (map f (range_with_len j (n - j))) ps)
+
+  pub weighed_none : (f : ℕ → Trace V) (n : ℕ) (ps : List (Pair V)) → Weighed f n ps runs 0
+  weighed_none f n ps = let e : n ≡ n - 0 = omega arith in record { weighs = ap (λ i. plan alike (map f (range_with_len 0 i)) ps) e }
+
+  module _ {f : ℕ → Trace V} {n j : ℕ} {ps : List (Pair V)} {best : Planned V} (h : Weighed f n ps best j) where
+    pub weighed_more : (p more : Planned V) → j < n → p ≡ plan alike (f j ∷ []) ps → more ≡ preferred best p → Weighed f n ps more (j + 1)
+    weighed_more p more l u v =
+        let e : n - j ≡ suc (n - (j + 1)) = omega arith in
+        let rest = plan alike (map f (range_with_len (j + 1) (n - (j + 1)))) ps in
+        record {
+          weighs =
+              h.weighs
+              ∙ ap (λ i. preferred best (plan alike (map f (range_with_len j i)) ps)) e
+              ∙ ap (preferred best) (plan_more (f j) (map f (range_with_len (j + 1) (n - (j + 1)))) ps)
+              ∙ regroup best (plan alike (f j ∷ []) ps) rest
+              ∙ ap (λ x. preferred (preferred best x) rest) (sym u)
+              ∙ ap (λ x. preferred x rest) (sym v);
+        }
+
+    pub weighed_all : n ≤ j → best ≡ plan alike (map f (range_with_len 0 n)) ps
+    weighed_all l =
+        let e : n - j ≡ 0 = omega arith in
+        sym (h.weighs ∙ ap (λ i. preferred best (plan alike (map f (range_with_len j i)) ps)) e ∙ alone best)
+
+    -- no older trace can do better than one of exactly the pairs
+    pub weighed_kept : (v : V) → best ≡ keeps v → best ≡ plan alike (map f (range_with_len 0 n)) ps
+    weighed_kept v e = e ∙ sym (h.weighs ∙ ap (λ x. preferred x (plan alike (map f (range_with_len j (n - j))) ps)) e)

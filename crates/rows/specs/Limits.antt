@@ -7,9 +7,10 @@ use Rattle.std.proofs.lemmas.List.{length-take}
 use Rattle.interfaces.specs.declared.cell.Cell.{Cell}
 use Rattle.interfaces.specs.Cells.{ask_limit}
 use Rattle.interfaces.specs.Traces.{Bounded, pairs_of}
-use Rattle.rows.specs.declared.row.Asked.{Asked}
+use Rattle.interfaces.specs.declared.asked.Asked.{Asked}
 use Rattle.rows.specs.declared.row.Row.{Row}
-use Rattle.rows.specs.Kept.{asked_cells, no_asked, trace_aged, row_traces}
+use Rattle.interfaces.specs.Asks.{asked_cells}
+use Rattle.rows.specs.Kept.{no_asked, trace_aged, row_traces}
 use Rattle.rows.specs.Blocks.{block_at, block}
 use Rattle.rows.specs.Rings.{place_in}
 

@@ -3,8 +3,11 @@
 #![tactic(auto)]
 
 pub mod compare;
+pub mod held;
+pub mod pairs;
 pub mod row;
 pub mod table;
 
-pub use compare::plan_row;
-pub use row::{Asked, Row};
+pub use held::Held;
+pub use pairs::Pairs;
+pub use row::Row;

@@ -10,6 +10,7 @@ ghost use Rattle.stores.specs.Tables.{checked};
 pub mod shield;
 
 use interfaces::cell::{CELLS, Cell};
+use interfaces::memory::check_room;
 use interfaces::refusal::Refusal;
 use interfaces::store::Store;
 use interfaces::value::Value;
@@ -27,10 +28,7 @@ impl<'a, V: Value> TableStore<'a, V> {
     pub fn check(values: &[V]) -> Result<(), Refusal>
         ensures { told result ≡ checked (length values.now) }
     {
-        if values.len() < CELLS {
-            return Err(Refusal::ShortMemory);
-        }
-        Ok(())
+        check_room(values, CELLS)
     }
 
     /// The store over memory that has passed its check.
@@ -43,7 +41,7 @@ impl<'a, V: Value> TableStore<'a, V> {
     }
 }
 
-// The value at a place.
+// The value at a place. It is a function, since a store over lent memory passes the slice on, as the project has it.
 fn at<V: Value>(values: &[V], place: usize) -> V
     requires { place < length values.now }
     ensures { result ≡ slice_index_or values.now place V.Value.blank }

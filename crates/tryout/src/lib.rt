@@ -3,7 +3,6 @@
 #![tactic(auto)]
 
 ghost use Rattle.std.specs.Prelude.{◌≡◌, ℕ, ◌<◌, ◌≤◌, Bool, true, false, cond, List, [], ◌∷◌, map, length, None as Nothing, slice_index_or};
-ghost use Rattle.std.proofs.Common.{zero-le};
 ghost use Rattle.interfaces.specs.Cells.{number_of};
 ghost use Rattle.interfaces.specs.Refusals.{told};
 ghost use Rattle.interfaces.specs.Tasks.{step_means, step_of};
@@ -11,13 +10,15 @@ ghost use Rattle.tryout.specs.Alias.{alias_stands, alias_of};
 ghost use Rattle.tryout.specs.AliasFaults.{alias_own};
 ghost use Rattle.tryout.specs.Ran.{Ran, Noted};
 
-use interfaces::cell::{ASKS, Cell, TEXT};
+use interfaces::cell::{Cell, TEXT};
 use interfaces::language::Language;
 use interfaces::rebuilder::Rebuilder;
 use interfaces::refusal::Refusal;
-use interfaces::step::{Plan, Step};
+use interfaces::step::Step;
 use interfaces::store::Store;
 use interfaces::value::Value;
+// the smallest rebuilder, which remembers nothing
+pub use rebuilders::DirtyBits;
 
 /// Cells that stand for other cells.
 pub struct Aliases {
@@ -55,7 +56,7 @@ impl<V: Value> Language<V> for Aliases {
         if text.len() > 1 {
             return Err(Refusal::NotInLanguage(1));
         }
-        self.targets[cell.number()] = Cell::new(text[0] as usize);
+        self.targets[cell.number()] = Cell::new(usize::from(text[0]));
         Ok(())
     }
 
@@ -66,44 +67,6 @@ impl<V: Value> Language<V> for Aliases {
     fn wipe(&mut self) {
         self.targets = [None; 256];
     }
-}
-
-/// A rebuilder that remembers nothing.
-pub struct Forgetful;
-
-impl<V: Value> Rebuilder<V> for Forgetful {
-    const DEPTH: usize = 0;
-
-    ghost depth = { 0 };
-
-    ghost traces = { λ _ _. [] };
-
-    ghost bounded = { λ _ _. record { few = zero-le; short = tt } };
-
-    fn depth_of() -> usize {
-        0
-    }
-
-    fn plan(&self, _cell: Cell, _cells: &[Cell], _values: &[V]) -> Plan<V> {
-        Plan::Run
-    }
-
-    fn record(
-        &mut self,
-        _cell: Cell,
-        cells: &[Cell],
-        values: &[V],
-        _result: V,
-    ) -> Result<(), Refusal> {
-        if cells.len() != values.len() || cells.len() > ASKS {
-            return Err(Refusal::BadTrace);
-        }
-        Ok(())
-    }
-
-    fn forget(&mut self, _cell: Cell) {}
-
-    fn wipe(&mut self) {}
 }
 
 /// Runs a task that asks for nothing: its value is stored, and its trace recorded. Proved once, over any parts.
