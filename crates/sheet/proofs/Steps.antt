@@ -1,11 +1,10 @@
 -- What a held text means, and that a formula has no zero byte, so that memory can hold it.
 use Rattle.std.proofs.Common.{◌≡◌, ℕ, zero, suc, ◌+◌, ◌/◌, ◌%◌, ◌^◌, ◌<◌, Bool, true, false, cond, eqb, ltb, List, [], ◌∷◌, ◌++◌, map, ℤ, pos, negsuc, ◌+ℤ◌, ◌-ℤ◌, ◌*ℤ◌, neg_ℤ, decimal, sym, refl, ap, ◌∙◌, arith}
-use mathlib.Core.Option.{none, some}
+use mathlib.Core.Option.{some}
 use Rattle.std.proofs.lemmas.Bool.{cond-false, cond-true, ne_eqb, cond_both}
 use Rattle.std.proofs.lemmas.Fmt.{decimal_by_steps}
 use Rattle.interfaces.specs.Cells.{cell_count}
-use Rattle.interfaces.specs.Tasks.{gives, faults, step_means, step_of}
-use Rattle.interfaces.specs.declared.step.Step.{Step}
+use Rattle.interfaces.specs.Tasks.{faults, step_of}
 use Rattle.names.specs.Names.{name_of, row_count}
 use Rattle.whole.specs.declared.Whole.{Whole}
 use Rattle.whole.specs.Whole.{within_limits, limited, whole_means, whole_canon, whole_blank}
@@ -17,12 +16,10 @@ use Rattle.formula.specs.declared.byte.Link.TheVariants.{Weak, Strong}
 use Rattle.formula.specs.Bytes.{link_of}
 use Rattle.formula.specs.Grammar.{Tree, number, cell, negated, joined, choice, lookup, total, Formula, a_term, a_sum, Term, a_factor, a_product, Factor, a_number, a_cell, a_minus, a_group, a_choice, a_lookup, a_total}
 use Rattle.formula.specs.Meaning.{Outcome, value, stops, and_then, held, is_zero, divided, quotient, remainder, operated, asked, looked_up, totalled, work, act_of, meaning}
-use Rattle.formula.specs.Reader.{reads, fails, reading, verdict_of, stands, run}
+use Rattle.formula.specs.Reader.{reads, reading, verdict_of, stands, run}
 use Rattle.formula.proofs.Places.{reading_legal}
-use Rattle.sheet_parts.specs.declared.flow.Flow.TheVariants.{Going, Stopped}
-use Rattle.sheet_parts.specs.declared.flow.Worked.{Worked}
-use Rattle.sheet_parts.specs.Flows.{outcome_of, outcome_in}
-use Rattle.sheet.specs.Readers.{WholeRead, WholeFailed}
+use Rattle.sheet_work.specs.Flows.{Worked, outcome_of}
+use Rattle.sheet_reader.specs.Readers.{WholeRead}
 
 -- an answer counts by its normal form
 limited_by : (b : Bool) (z : ℤ) → within_limits z ≡ b → limited (cond b z (pos 0)) ≡ cond b z (pos 0)
@@ -97,23 +94,10 @@ unfolding run
 meant_reads [] t e = absurd (let z : ◌≡◌ {A = ℕ} 0 1 = cc in omega arith)
 meant_reads (b ∷ bs) t e = ap (λ r. definition_in (verdict_of r)) e
 
-meant_fails : (text : List ℕ) (p : ℕ) → reading text ≡ fails p → meant stands text ≡ none
-meant_fails [] p e = refl
-meant_fails (b ∷ bs) p e = ap (λ r. definition_in (verdict_of r)) e
-
 pub step_reads : (text : List ℕ) (answers : List Whole) (w : Worked) → WholeRead text answers w → step_of whole_blank (meant stands text) (map whole_canon answers) ≡ act_of (outcome_of answers w)
 step_reads text answers w r =
     ap (λ d. step_of whole_blank d (map whole_canon answers)) (meant_reads text r.tree r.is)
     ∙ (ap act_of (work_settles r.tree answers) ∙ (act_settles (work r.tree answers) ∙ ap act_of (sym r.works)))
-
-pub step_fails : (text : List ℕ) (answers : List Whole) (p : ℕ) → WholeFailed text p → step_of whole_blank (meant stands text) (map whole_canon answers) ≡ gives whole_blank
-step_fails text answers p f = ap (λ d. step_of whole_blank d (map whole_canon answers)) (meant_fails text p f.is)
-
-pub act_going : (answers : List Whole) (w : Worked) (used : ℕ) → w.flow ≡ Going used → act_of (outcome_of answers w) ≡ gives (whole_canon w.value)
-act_going answers w used e = ap (λ f. act_of (outcome_in answers w.value f)) e
-
-pub act_stopped : (answers : List Whole) (w : Worked) (s : Step Whole) → w.flow ≡ Stopped s → act_of (outcome_of answers w) ≡ step_means whole_canon s
-act_stopped answers w s e = ap (λ f. act_of (outcome_in answers w.value f)) e
 
 -- no zero byte
 abbrev Positive : List ℕ → Type 0

@@ -9,14 +9,13 @@ ghost use Rattle.definitions.specs.Meant.{meant};
 ghost use Rattle.formula.specs.Reader.{stands};
 ghost use Rattle.formula.specs.Own.{stands_own};
 
-use crate::read::read;
 use definitions::TextMemory;
 use interfaces::cell::{Cell, TEXT};
 use interfaces::language::Language;
 use interfaces::refusal::Refusal;
 use interfaces::step::Step;
 use interfaces::value::Value;
-use sheet_parts::flow::Flow;
+use sheet_reader::read;
 use whole::Whole;
 
 /// A formula for each cell. What passed its check carries the proof of its length in its type.
@@ -52,10 +51,8 @@ fn step_of(text: &[u8], answers: &[Whole]) -> Step<Whole>
     ensures { step_means whole_canon result ≡ step_of whole_blank (meant stands text.now) (map whole_canon answers.now) }
 {
     match read(text, answers) {
-        Ok(got) => match got.flow {
-            Flow::Going(_) => Step::Give(got.value),
-            Flow::Stopped(step) => step,
-        },
+        Ok(Ok(got)) => Step::Give(got.value),
+        Ok(Err(step)) => step,
         Err(_) => Step::Give(Whole::blank_value()),
     }
 }

@@ -2,6 +2,5 @@
 #![tactic(auto)]
 
 pub mod language;
-mod read;
 
 pub use language::Sheet;

@@ -1,5 +1,141 @@
-// The smallest parts of a formula, read from a text, and how a formula is worked out while it is read.
+// The smallest parts of a formula, read at a place of a text: bytes, words, numbers, names and counts. Each reader
+// answers what it read and the place that follows, or the place where the text goes wrong. A place past the end
+// of the text has no byte.
 #![tactic(auto)]
 
-pub mod flow;
-pub mod token;
+ghost use Rattle.std.specs.Prelude.{◌≡◌, ℕ, ◌+◌, ◌<◌, ◌≤◌, [], ◌∷◌, length, MatchOption, MatchResult, slice_index};
+ghost use Rattle.std.proofs.Math.Option.{none, some};
+ghost use Rattle.interfaces.specs.Cells.{number_of};
+ghost use Rattle.names.specs.Names.{NameAt};
+ghost use Rattle.whole.specs.Whole.{whole_limit};
+ghost use Rattle.formula.specs.Bytes.{link_of, digit_of, column_of, start_of};
+ghost use Rattle.sheet_parts.specs.Tokens.{stands_at_lem, spelled, whole_of, number_in, name_end_lem, NoName, count_means, count_in};
+
+use formula::byte::{Link, Start, link_of, start_of};
+use interfaces::cell::Cell;
+use interfaces::value::Value;
+use names::name_at;
+use sheet_work::block::Block;
+use whole::Whole;
+
+// how large a number may be
+const LIMIT: u64 = 1_000_000_000;
+
+const BASE: u64 = 10;
+
+// the digit that no digit follows
+const LONE: u8 = 0;
+
+// The byte at a place, and 0 past the end.
+fn byte_at(text: &[u8], at: usize) -> u8
+    ensures { result ≡ slice_index text.now at }
+{
+    text.get(at).copied().unwrap_or(0)
+}
+
+/// How a factor begins at a place.
+pub fn start_at(text: &[u8], at: usize) -> Start
+    ensures { result ≡ start_of (slice_index text.now at) }
+{
+    start_of(byte_at(text, at))
+}
+
+/// How the byte at a place joins operands.
+pub fn link_at(text: &[u8], at: usize) -> Link
+    ensures { result ≡ link_of (slice_index text.now at) }
+{
+    link_of(byte_at(text, at))
+}
+
+// The digit at a place.
+fn digit_at(text: &[u8], at: usize) -> Option<u8>
+    ensures { MatchOption result (digit_of (slice_index text.now at) ≡ none) (λ d. (digit_of (slice_index text.now at) ≡ some d) × (d < 10)) }
+{
+    match byte_at(text, at) {
+        b @ b'0'..=b'9' => Some(b - b'0'),
+        _ => None,
+    }
+}
+
+// Whether a byte stands at a place.
+fn stands_at(text: &[u8], at: usize, byte: u8) -> bool
+    ensures { result ≡ stands_at_lem text.now at byte }
+{
+    text.get(at) == Some(&byte)
+}
+
+/// The place after a byte, if that byte stands there.
+pub fn expect(text: &[u8], at: usize, byte: u8) -> Result<usize, usize>
+    ensures { result ≡ spelled text.now at (byte ∷ []) }
+{
+    spell(text, at, &[byte])
+}
+
+/// The place after a word, if that word stands there.
+pub fn spell(text: &[u8], at: usize, word: &[u8]) -> Result<usize, usize>
+    ensures { result ≡ spelled text.now at word.now }
+{
+    for (i, byte) in word.iter().enumerate() {
+        if !stands_at(text, at + i, *byte) {
+            return Err(at + i);
+        }
+    }
+    Ok(at + word.len())
+}
+
+// The record of a number within the limit.
+fn whole_of(n: u64) -> Whole
+    requires { n ≤ whole_limit }
+    ensures { result ≡ whole_of n }
+{
+    Whole::new(n as i32).unwrap()
+}
+
+/// The number at a place.
+pub fn number(text: &[u8], at: usize) -> Result<(Whole, usize), usize>
+    ensures { result ≡ number_in text.now at }
+{
+    let Some(first) = digit_at(text, at) else {
+        return Err(at);
+    };
+    // the place is no count of rounds: it is what the reader answers, and the loop ends where no digit stands
+    let mut next = at + 1;
+    if first == LONE {
+        return Ok((Whole::blank_value(), next));
+    }
+    let mut n = u64::from(first);
+    while let Some(digit) = digit_at(text, next) {
+        n = n * BASE + u64::from(digit);
+        if n > LIMIT {
+            return Err(next);
+        }
+        next += 1;
+    }
+    Ok((whole_of(n), next))
+}
+
+// Where the text goes wrong if no name stands at the place.
+fn name_end(text: &[u8], at: usize) -> usize
+    ensures { result ≡ name_end_lem at (column_of (slice_index text.now at)) }
+{
+    match byte_at(text, at) {
+        b'A'..=b'P' => at + 1,
+        _ => at,
+    }
+}
+
+/// The name at a place, the longest one.
+pub fn name(text: &[u8], at: usize) -> Result<(Cell, usize), usize>
+    ensures { MatchResult result (λ p. NameAt text.now at (number_of p.0) p.1) (λ place. NoName text.now at place) }
+{
+    name_at(text, at).ok_or_else(|| name_end(text, at))
+}
+
+/// The cells of a sum, by its first one and the count at a place.
+pub fn count(text: &[u8], at: usize, first: Cell) -> Result<Block, usize>
+    ensures { count_means result ≡ count_in text.now at (number_of first) }
+{
+    digit_at(text, at)
+        .and_then(|digit| Block::new(first, usize::from(digit)))
+        .ok_or(at)
+}

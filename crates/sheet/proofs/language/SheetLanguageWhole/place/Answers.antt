@@ -18,7 +18,7 @@ overflow_cast-result c =
 
 pub returns-in-Err : goal.returns-in-Err
 returns-in-Err c =
-    let w = c.in-Err.ensures.is in
+    let w = c.in-Err.ensures.short c.if-text-gt-TEXT.false in
     let e = false-eqb _ _ c.if-is_empty.ensures in
     let l : 0 < length c.args.text.now = omega arith in
     let u : length c.args.text.now ≤ text_limit = c.if-text-gt-TEXT.false in

@@ -1,0 +1,3 @@
+pub mod Flows
+pub mod Parts
+pub mod Tokens
