@@ -1,1 +1,2 @@
 pub mod Readers
+pub mod Laws
