@@ -1,3 +1,3 @@
-pub mod Texts
+pub mod HeldTexts
 pub mod Places
 pub mod Meanings

@@ -1,5 +1,5 @@
 -- The texts that memory holds: 48 bytes for each cell, a text and zeros behind it.
-use Rattle.std.specs.Prelude.{◌≡◌, ℕ, ◌-◌, ◌*◌, ◌≤◌, Bool, true, false, cond, not, ◌&&◌, List, [], ◌∷◌, ◌++◌, length, take, drop, replicate, Ok, Err, Result, ◌==◌, nat_le, nat_lt}
+use Rattle.std.specs.Prelude.{◌≡◌, ℕ, ◌+◌, ◌-◌, ◌*◌, ◌≤◌, Bool, true, false, cond, not, ◌&&◌, List, [], ◌∷◌, ◌++◌, length, take, drop, replicate, Ok, Err, Result, ◌==◌, nat_le, nat_lt}
 use Rattle.std.specs.Borrow.{MutBor}
 use Rattle.interfaces.specs.Cells.{text_limit, definition_length, but}
 use Rattle.interfaces.specs.Refusals.{Said, no}
@@ -42,10 +42,18 @@ zero_in (b ∷ bs) = cond (b == 0) true (zero_in bs)
 abbrev pub can_keep : List ℕ → Bool
 can_keep text = nat_lt 0 (length text) && (nat_le (length text) text_limit && not (zero_in text))
 
+-- whether memory has all bytes of the cell with this number
+abbrev pub has_room_lem : List ℕ → ℕ → Bool
+has_room_lem memory k = nat_le (start_of (k + 1)) (length memory)
+
+-- whether memory can hold the text for the cell
+abbrev pub can_put : List ℕ → ℕ → List ℕ → Bool
+can_put memory c text = has_room_lem memory c && can_keep text
+
 -- a text with zeros behind it
 abbrev pub padded : List ℕ → List ℕ
 padded text = text ++ replicate (text_limit - length text) 0
 
 -- the texts of the cells after a put at the cell `c`: the text there if memory can hold it, else all as they were
-abbrev pub after_put : ℕ → List ℕ → (ℕ → List ℕ) → ℕ → List ℕ
-after_put c text texts k = cond (can_keep text) (but c text texts k) (texts k)
+abbrev pub after_put : List ℕ → ℕ → List ℕ → ℕ → List ℕ
+after_put memory c text k = cond (can_put memory c text) (but c text (text_at memory) k) (text_at memory k)

@@ -1,3 +1,2 @@
 pub mod Placing
 pub mod Running
-pub mod Zeros

@@ -1,7 +1,10 @@
 -- The readers of the code read what the readers of the grammar read. Assumes nothing.
-use Rattle.std.proofs.Common.{◌≡◌, ℕ, suc, ◌+◌, ◌<◌, ◌≤◌, Bool, true, false, cond, eqb, List, [], length, get_or, take, drop, Ok, Err, Result, sym, refl, ap, ◌∙◌, subst, arith}
+use Rattle.std.proofs.Common.{◌≡◌, ℕ, suc, ◌+◌, ◌<◌, ◌≤◌, Bool, true, false, cond, eqb, List, [], length, get_or, take, drop, Some, None, Option, Ok, Err, Result, MatchOption, sym, refl, ap, ◌∙◌, subst, arith}
 use Rattle.std.proofs.lemmas.List.{drop-drop, drop_all, get_or-drop, take_at, length-append, length-drop, length-take-le}
 use Rattle.std.proofs.lemmas.Bool.{cond-true, cond-false}
+use Rattle.std.specs.Option.{ok_or}
+use Rattle.interfaces.specs.Cells.{number_of}
+use Rattle.interfaces.specs.declared.cell.Cell.{Cell}
 use Rattle.names.specs.Names.{name_of, NameAt, NoNameAt}
 use Rattle.fragment_grammar.specs.Grammar.{Item, plain, insert, written, opening, closing, question, Sound}
 use Rattle.fragment_grammar.specs.Reader.{Read, got, stuck, further, and_then, head, nothing, led, is_column, is_first, is_second, name_in, named, filled_in, tested_in, is_plain, item_in, Rows, row, astray, fronted, rows}
@@ -9,7 +12,7 @@ use Rattle.fragment_grammar.proofs.Reading.{Right}
 use Rattle.fragment_grammar.proofs.NameReading.{NameRight, name_right, name_shortest, same_name}
 use Rattle.fragment_grammar.proofs.ItemReading.{Word, item_right, word_full}
 use Rattle.fragment_grammar.proofs.RowReading.{RowRight, rows_got, rows_stuck, rows_right}
-use Rattle.fragment.specs.Readings.{placed, row_answer}
+use Rattle.fragment.specs.Readings.{read_means, placed, row_answer}
 
 -- a call that went well did not fail
 pub ok_err : {A B : Type 0} (a : A) (b : B) → ◌≡◌ {A = Result A B} (Ok a) (Err b) → ⊥
@@ -139,6 +142,12 @@ module _ (text : List ℕ) (at : ℕ) (a : NoNameAt text at) where
 
   pub no_name_read : Err (at + cond (is_column (get_or text at 0)) 1 0) ≡ placed at (name_in (drop at text))
   no_name_read = no_name_at (name_in (drop at text)) refl (name_right (drop at text))
+
+-- what the reader of a name answers
+pub cell_read : (text : List ℕ) (at : ℕ) (r : Option (Cell × ℕ)) → MatchOption r (NoNameAt text at) (λ p. NameAt text at (number_of p.0) p.1)
+    → read_means number_of (ok_or r (at + cond (is_column (get_or text at 0)) 1 0)) ≡ placed at (name_in (drop at text))
+cell_read text at None a = no_name_read text at a
+cell_read text at (Some p) a = name_read text at _ _ a
 
 -- the item that was read at a place: it goes on from there
 pub record Next (text : List ℕ) (at : ℕ) (i : Item) (next : ℕ) : Type 0 where

@@ -1,7 +1,9 @@
 -- The steps of the code are those of the items. Assumes nothing.
-use Rattle.std.proofs.Common.{◌≡◌, ℕ, ◌+◌, ◌-◌, ◌<◌, ◌≤◌, Bool, true, false, cond, eqb, leb, List, [], ◌∷◌, ◌++◌, map, length, get_or, take, drop, Some, None, Option, sym, refl, ap, ◌∙◌, subst, ⊎_elim, arith}
+use Rattle.std.proofs.Common.{◌≡◌, ℕ, ◌+◌, ◌-◌, ◌<◌, ◌≤◌, Bool, true, false, cond, eqb, leb, List, [], ◌∷◌, ◌++◌, map, length, get_or, take, drop, Some, None, Option, Ok, Result, Bor, sym, refl, ap, ◌∙◌, subst, ⊎_elim, arith}
 use Rattle.std.proofs.lemmas.List.{drop-map, take_rest}
 use Rattle.std.proofs.lemmas.Bool.{cond-true, cond-false, cases_lt, le-leb, lt-leb, and_from}
+use Rattle.std.specs.Slice.{IsItemAt}
+use Rattle.std.specs.Option.{ok_or}
 use Rattle.interfaces.specs.Tasks.{Act, asks, gives, faults, step_of}
 use Rattle.text.specs.Text.{text_longest, text_means, text_of, text_canon, text_blank, sound_text, printable_byte, Extends}
 use Rattle.text.specs.declared.Text.{Text}
@@ -11,7 +13,7 @@ use Rattle.fragment_grammar.specs.Grammar.{Item, insert, choice, written, IsPlai
 use Rattle.fragment_grammar.specs.Meaning.{Brought, lacks, brings, brought, chosen, step_at, runs}
 use Rattle.fragment_grammar.specs.Reader.{Rows, row, astray, fronted, rows}
 use Rattle.fragment_grammar.specs.Stands.{verdict, fragment_stands}
-use Rattle.fragment.specs.declared.run.Grown.{Grown}
+use Rattle.fragment.specs.declared.run.Stop.{Stop}
 use Rattle.fragment.specs.Steps.{joined_as, Grew, RunsAs}
 use Rattle.fragment.proofs.Placing.{Next, row_end}
 
@@ -38,10 +40,16 @@ canon_means t = canon_by t (sound_text t) refl
 
 -- what comes of bytes behind a text
 pub grew_joined : (b : Brought) (before new : List ℕ) (answers : List Text) (used : ℕ) → b ≡ brings new (drop used answers) → used ≤ length answers → used ≤ 2
-    → (o : Option Text) → Extends before new o → (g : Grown) → g ≡ joined_as o used → Grew b before answers g
+    → (o : Option Text) → Extends before new o → (g : Result (Text × ℕ) Stop) → g ≡ joined_as o used → Grew b before answers g
 grew_joined b before new answers used e l u None x g q = subst (Grew b before answers) (sym q)
     (new, drop used answers, e, ⊎_elim (λ h. h) (λ h. absurd (x h)) (cases_lt text_longest (length before + length new)))
 grew_joined b before new answers used e l u (Some t) x g q = subst (Grew b before answers) (sym q) (new, e, x.0, x.1, l, u)
+
+-- an answer that is there
+pub answer_there : {E : Type 0} (answers : List Text) (k : ℕ) (r : Option (Bor Text)) (e : E) (a : Bor Text) → IsItemAt answers k r → ok_or r e ≡ Ok a
+    → (k < length answers) × (a.now ≡ get_or answers k text_blank)
+answer_there answers k None e a h q = absurd (cc)
+answer_there answers k (Some b) e a h q = let u : b ≡ a = cc in (h.3.0, ap (λ x. x.now) (sym u) ∙ h.3.1 text_blank)
 
 -- the answers of an item
 pub insert_lacks : (c : ℕ) (answers : List Text) → length answers ≡ 0 → brought (insert c) (map text_canon answers) ≡ lacks c

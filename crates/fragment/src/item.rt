@@ -26,10 +26,7 @@ fn stands_at(text: &[u8], at: usize, byte: u8) -> bool
     ensures is { result ≡ ((slice_index text.now at) == byte) }
     ensures within { result ≡ true → at < length text.now }
 {
-    if at >= text.len() {
-        return false;
-    }
-    text[at] == byte
+    text.get(at) == Some(&byte)
 }
 
 // Where the text leaves every name, if no name stands at the place.
@@ -37,14 +34,10 @@ fn name_end(text: &[u8], at: usize) -> usize
     requires { at ≤ length text.now }
     ensures { result ≡ at + (if is_column (slice_index text.now at) then 1 else 0) }
 {
-    if at >= text.len() {
-        return at;
+    match text.get(at) {
+        Some(b'A'..=b'P') => at + 1,
+        _ => at,
     }
-    let byte = text[at];
-    if byte >= b'A' && byte <= b'P' {
-        return at + 1;
-    }
-    at
 }
 
 fn cell_from(text: &[u8], at: usize) -> Result<(Cell, usize), usize>
@@ -52,10 +45,7 @@ fn cell_from(text: &[u8], at: usize) -> Result<(Cell, usize), usize>
     ensures reads { read_means number_of result ≡ placed at (name_in (drop at text.now)) }
     ensures within { MatchResult result (λ p. p.1 ≤ length text.now) (λ _. ⊥ → ⊥) }
 {
-    match name_at(text, at) {
-        Some(found) => Ok(found),
-        None => Err(name_end(text, at)),
-    }
+    name_at(text, at).ok_or(name_end(text, at))
 }
 
 // The last cell of a choice and the brace behind it.
@@ -100,7 +90,7 @@ fn braces_from(text: &[u8], at: usize) -> Result<(Item, usize), usize>
 fn is_plain(byte: u8) -> bool
     ensures { result ≡ is_plain byte }
 {
-    byte >= b' ' && byte <= b'~' && byte != b'{' && byte != b'}'
+    matches!(byte, b' '..=b'~') && !matches!(byte, b'{' | b'}')
 }
 
 /// The item at a place of the text, and the place that follows.

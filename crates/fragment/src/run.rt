@@ -19,49 +19,46 @@ use text::Text;
 /// The fault of a text that grows past 32 bytes.
 pub const TOO_LONG: u8 = 14;
 
-/// What an item makes of the text before it.
+/// Why an item ends the run.
 #[derive(Clone, Copy)]
-pub enum Grown {
+pub enum Stop {
     /// It asks for a cell that has no answer yet.
     Asks(Cell),
     /// It takes the text past its limit.
     Overflows,
-    /// The text with what the item brings behind it, and how many answers the item used.
-    Joined(Text, usize),
 }
 
-fn joined(text: Option<Text>, used: usize) -> Grown
+// The text that grew, and how many answers the item used.
+fn joined(text: Option<Text>, used: usize) -> Result<(Text, usize), Stop>
     ensures { result ≡ joined_as text used }
 {
-    match text {
-        Some(both) => Grown::Joined(both, used),
-        None => Grown::Overflows,
-    }
+    Ok((text.ok_or(Stop::Overflows)?, used))
 }
 
-fn grown_by_insert(cell: Cell, before: Text, answers: &[Text]) -> Grown
+fn grown_by_insert(cell: Cell, before: Text, answers: &[Text]) -> Result<(Text, usize), Stop>
     ensures { Grew (brought (insert (number_of cell)) (map text_canon answers.now)) (text_means before) (map text_canon answers.now) result }
 {
-    if answers.is_empty() {
-        return Grown::Asks(cell);
-    }
-    joined(before.append(answers[0]), 1)
+    let answer = answers.first().ok_or(Stop::Asks(cell))?;
+    joined(before.append(*answer), 1)
 }
 
-fn grown_by_choice(tested: Cell, filled: Cell, empty: Cell, before: Text, answers: &[Text]) -> Grown
+fn grown_by_choice(
+    tested: Cell,
+    filled: Cell,
+    empty: Cell,
+    before: Text,
+    answers: &[Text],
+) -> Result<(Text, usize), Stop>
     ensures { Grew (brought (choice (number_of tested) (number_of filled) (number_of empty)) (map text_canon answers.now)) (text_means before) (map text_canon answers.now) result }
 {
-    if answers.is_empty() {
-        return Grown::Asks(tested);
-    }
-    let cell = if answers[0].is_empty() { empty } else { filled };
-    if answers.len() < 2 {
-        return Grown::Asks(cell);
-    }
-    joined(before.append(answers[1]), 2)
+    let condition = answers.first().ok_or(Stop::Asks(tested))?;
+    let cell = if condition.is_empty() { empty } else { filled };
+    let answer = answers.get(1).ok_or(Stop::Asks(cell))?;
+    joined(before.append(*answer), 2)
 }
 
-fn grown_by(item: Item, before: Text, answers: &[Text]) -> Grown
+// What an item makes of the text before it.
+fn grown_by(item: Item, before: Text, answers: &[Text]) -> Result<(Text, usize), Stop>
     requires { Sound (item_means item) }
     ensures { Grew (brought (item_means item) (map text_canon answers.now)) (text_means before) (map text_canon answers.now) result }
 {
@@ -97,9 +94,9 @@ fn run(text: &[u8], at: usize, before: Text, answers: &[Text]) -> Step<Text>
         return Step::Give(<Text as Value>::blank_value());
     };
     match grown_by(item, before, answers) {
-        Grown::Asks(cell) => Step::Ask(cell),
-        Grown::Overflows => overflow(at),
-        Grown::Joined(both, used) => run(text, next, both, &answers[used..]),
+        Ok((both, used)) => run(text, next, both, &answers[used..]),
+        Err(Stop::Asks(cell)) => Step::Ask(cell),
+        Err(Stop::Overflows) => overflow(at),
     }
 }
 

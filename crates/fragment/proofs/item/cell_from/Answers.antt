@@ -1,15 +1,10 @@
-use Rattle.fragment.proofs.Placing.{name_read, name_within, no_name_read}
-use Rattle.std.proofs.Common.{Err, ap, ◌∙◌}
+use Rattle.std.proofs.Common.{ap, ◌∙◌}
+use Rattle.interfaces.specs.Cells.{number_of}
+use Rattle.std.specs.Option.{ok_or}
+use Rattle.fragment.specs.Readings.{read_means}
+use Rattle.fragment.proofs.Placing.{cell_read}
 use Rattle.fragment.proofs.item.cell_from.Goals as goal
 
-pub returns-in-Some : goal.returns-in-Some
-returns-in-Some c = record {
-  reads = name_read c.args.text.now c.args.at _ _ c.in-Some.ensures;
-  within = name_within c.args.text.now c.args.at _ _ c.in-Some.ensures c.requires;
-}
-
-pub returns-in-None : goal.returns-in-None
-returns-in-None c = record {
-  reads = ap Err c.name_end.ensures ∙ no_name_read c.args.text.now c.args.at c.in-None.ensures;
-  within = λ e. e;
-}
+pub returns-clause-reads : goal.returns-clause-reads
+returns-clause-reads c =
+    ap (read_means number_of) (c.ok_or.ensures.value ∙ ap (ok_or c.name_at.result) c.name_end.ensures) ∙ cell_read c.args.text.now c.args.at c.name_at.result c.name_at.ensures

@@ -20,13 +20,13 @@ pub grown_by-requires : goal.grown_by-requires
 grown_by-requires t c = (item_next c.args.text.now c.args.at c.if-at-text.false (item_means c.in-Ok.item) c.in-Ok.next c.in-Ok.ensures).sound
 
 pub offset_bounds-answers-used : goal.offset_bounds-answers-used
-offset_bounds-answers-used t c = let u = c.in-Joined.ensures.5 in search rules
+offset_bounds-answers-used t c = let u = c.in-Ok-grown_by.ensures.5 in search rules
 
 pub slice_bounds-run-count : goal.slice_bounds-run-count
-slice_bounds-run-count t c = let u = c.in-Joined.ensures.4 in simp length-map at u
+slice_bounds-run-count t c = let u = c.in-Ok-grown_by.ensures.4 in simp length-map at u
 
 pub slice_bounds-run-start : goal.slice_bounds-run-start
-slice_bounds-run-start t c = let u : c.in-Joined.used ≤ length c.args.answers.now = slice_bounds-run-count t c in search rules
+slice_bounds-run-start t c = let u : c.in-Ok-grown_by.used ≤ length c.args.answers.now = slice_bounds-run-count t c in search rules
 
 pub run-requires : goal.run-requires
 run-requires t c =
@@ -34,20 +34,20 @@ run-requires t c =
     let a = n.further_on in let b = n.within in
     search rules
 
-pub returns-in-Asks : goal.returns-in-Asks
-returns-in-Asks t c =
+pub returns-in-Err-Asks : goal.returns-in-Err-Asks
+returns-in-Err-Asks t c =
     let n = item_next c.args.text.now c.args.at c.if-at-text.false (item_means c.in-Ok.item) c.in-Ok.next c.in-Ok.ensures in
-    run_asks c.args.text.now c.args.at _ _ n (text_means c.args.before) (map text_canon c.args.answers.now) _ c.in-Asks.ensures
+    run_asks c.args.text.now c.args.at _ _ n (text_means c.args.before) (map text_canon c.args.answers.now) _ (rw c.in-Err-Asks.field-0-is at c.in-Err-Asks.ensures)
 
-pub returns-in-Overflows : goal.returns-in-Overflows
-returns-in-Overflows t c =
+pub returns-in-Err-Overflows : goal.returns-in-Err-Overflows
+returns-in-Err-Overflows t c =
     let n = item_next c.args.text.now c.args.at c.if-at-text.false (item_means c.in-Ok.item) c.in-Ok.next c.in-Ok.ensures in
-    let o = c.in-Overflows.ensures in
+    let o = rw c.in-Err-Overflows.field-0-is at c.in-Err-Overflows.ensures in
     run_overflows c.args.text.now c.args.at _ _ n (text_means c.args.before) (map text_canon c.args.answers.now) o.0 o.1 o.2 o.3 _ (search rules)
 
-pub returns-in-Joined : goal.returns-in-Joined
-returns-in-Joined t c =
+pub returns-in-Ok-grown_by : goal.returns-in-Ok-grown_by
+returns-in-Ok-grown_by t c =
     let n = item_next c.args.text.now c.args.at c.if-at-text.false (item_means c.in-Ok.item) c.in-Ok.next c.in-Ok.ensures in
-    let j = c.in-Joined.ensures in
-    run_joined c.args.text.now c.args.at _ _ n (text_means c.args.before) (map text_canon c.args.answers.now) j.0 (text_means c.in-Joined.both) _ _ j.1 j.2 j.3
-    (subst (λ left. RunsAs c.args.text.now c.in-Ok.next (text_means c.in-Joined.both) left (step_means text_canon c.run.result)) (answers_left c.args.answers.now c.in-Joined.used) c.run.ensures)
+    let j = c.in-Ok-grown_by.ensures in
+    run_joined c.args.text.now c.args.at _ _ n (text_means c.args.before) (map text_canon c.args.answers.now) j.0 (text_means c.in-Ok-grown_by.both) _ _ j.1 j.2 j.3
+    (subst (λ left. RunsAs c.args.text.now c.in-Ok.next (text_means c.in-Ok-grown_by.both) left (step_means text_canon c.run.result)) (answers_left c.args.answers.now c.in-Ok-grown_by.used) c.run.ensures)
