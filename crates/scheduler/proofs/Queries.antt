@@ -1,5 +1,5 @@
 -- A query, by the settling of its cell.
-use Rattle.std.proofs.Common.{◌≡◌, ℕ, ◌<◌, ◌≤◌, Bool, ◌⊎◌, List, [], ◌++◌, map, length, take, drop, Ok, Err, sym, refl, ap, ◌∙◌, subst, inl, inr, arith}
+use Rattle.std.proofs.Common.{◌≡◌, ℕ, ◌<◌, ◌≤◌, Bool, ◌⊎◌, List, [], ◌∷◌, ◌++◌, map, length, take, drop, Ok, Err, sym, refl, ap, ◌∙◌, subst, inl, inr, arith}
 use native.Mathlib.Decide.{dec_lt}
 use Rattle.std.proofs.lemmas.List.{length-take-le}
 use Rattle.interfaces.specs.declared.cell.Cell.{Cell}
@@ -8,14 +8,17 @@ use Rattle.interfaces.specs.Cells.{cell_count, work_length, number_of}
 use Rattle.interfaces.specs.Refusals.{no as refusal}
 use Rattle.interfaces.specs.Tasks.{Verdict}
 use Rattle.past.specs.Afresh.{Log, Outcome, gave, fault}
-use Rattle.past.specs.Past.{Run, query, refused, queried, Past, ◌▹◌}
+use Rattle.past.specs.Past.{Lent, Run, query, refused, queried, Past, ◌▹◌}
 use Rattle.past.specs.Law.{Lawful}
-use Rattle.view.specs.View.{Shows}
+use Rattle.view.specs.View.{View, Shows}
+use Rattle.midway.specs.Midway.{Mid, Open, Brought}
 use Rattle.midway.proofs.Ends.{mid_start, mid_end, lawful_end, refused_shows, refused_lawful}
-use Rattle.scheduler.specs.declared.answer.Fault.{Fault}
-use Rattle.scheduler.specs.Outcomes.{outcome_of, layer_of, ran_entry, run_entry, Listed}
-use Rattle.scheduler.specs.Moves.{Settles}
-use Rattle.scheduler.specs.Promise.{Enough, Setting, Refused, Answered}
+use Rattle.moves.specs.declared.answer.Fault.{Fault}
+use Rattle.moves.specs.declared.answer.Ran.{Ran}
+use Rattle.scheduler.specs.declared.answer.Answer.{Answer}
+use Rattle.scheduler.specs.Outcomes.{outcome_of, layer_of, chain_in, ran_entry, run_entry, Listed}
+use Rattle.scheduler.specs.Settling.{Settles}
+use Rattle.scheduler.specs.Promise.{Enough, Setting, Queried, Refused, Answered}
 use Rattle.scheduler.proofs.Lengths.{front_is, rest_is}
 use Rattle.scheduler.proofs.Reporting.{length_map}
 

@@ -1,3 +1,3 @@
 pub mod Outcomes
-pub mod Moves
+pub mod Settling
 pub mod Promise

@@ -1,31 +1,25 @@
--- Each way out of the two functions, by what the workbook shows before and after.
-use Rattle.std.proofs.Common.{◌≡◌, ℕ, ◌+◌, ◌<◌, ◌≤◌, List, [], ◌∷◌, ◌++◌, map, length, take, set, IfErr, Some, None, Ok, Err, sym, refl, ap, ◌∙◌, subst, arith, length-append, rules}
+-- Each way out of the two functions, and round the loop, by what the workbook shows before and after.
 use borrow.Rule.Slice.PartMut.{put_mid, post_of}
+use Rattle.std.proofs.Common.{◌≡◌, ℕ, ◌+◌, ◌<◌, ◌≤◌, List, [], ◌∷◌, ◌++◌, map, length, take, set, IfErr, Ok, Err, sym, refl, ap, ◌∙◌, subst, arith, length-append, length-set}
 use mathlib.Core.Option.{none}
-use native.Mathlib.Nat.{sub-zero}
 use Rattle.std.proofs.lemmas.List.{take_more_set, length-take-le}
 use Rattle.std.proofs.lemmas.Slice.{take-put_mid_below}
 use Rattle.std.proofs.lemmas.Result.{err_from_is_err_and}
 use Rattle.interfaces.specs.Cells.{cell_count, ask_limit, number_of}
+use Rattle.interfaces.specs.Tasks.{step_of}
 use Rattle.interfaces.specs.Traces.{pairs_of}
 use Rattle.past.specs.Afresh.{engine, language, fault}
-use Rattle.view.specs.View.{View}
 use Rattle.table.specs.Records.{record_in}
-use Rattle.parts.specs.declared.Parts.{Parts}
-use Rattle.parts.specs.Shown.{view_of}
-use Rattle.scheduler.specs.declared.answer.Layer.TheVariants.{Language}
 use Rattle.scheduler.specs.Outcomes.{outcome_of, layer_of}
-use Rattle.scheduler.specs.Moves.{Follows}
 use Rattle.scheduler.proofs.Lengths.{front_back}
-use Rattle.scheduler.proofs.Reporting.{map_push, length_map, pairs_on}
+use Rattle.scheduler.proofs.Reporting.{map_push, length_map, pairs_on, front_lengths}
 use Rattle.scheduler.proofs.Codes.{discrete}
+use Rattle.scheduler.proofs.Going.{checked_on, settled_on}
+use Rattle.scheduler.proofs.Turning.{wants_is, ends_is, begins_is, fails_is}
 use Rattle.scheduler.proofs.Stepping as steps
-use Rattle.scheduler.proofs.Stepping.{follows_as, turned, ask_faulted}
+use Rattle.scheduler.proofs.Stepping.{follows_as}
+use Rattle.scheduler.proofs.+follow_settle.Invariants.{view}
 use Rattle.scheduler.proofs.+follow_settle.Goals as goal
-use Rattle.scheduler.proofs.+follow_settle.Given as given
-
-abbrev view : (g : given.Over) → Parts g.row.S.Denot g.row.L.Denot g.row.R.Denot → View g.row.V.Denot
-view g e = view_of g.V.Value.canon g.S.Store.shows g.S.Store.locked g.L.Language.means g.R.Rebuilder.traces e
 
 placed : {X : Type 0} (xs ys : List X) (n k : ℕ) (w : X) → n < ask_limit → ask_limit ≤ length xs → take (n + 1) (set (put_mid ask_limit k xs ys) n w) ≡ take n xs ++ w ∷ []
 placed xs ys n k w l h =
@@ -33,144 +27,119 @@ placed xs ys n k w l h =
     let u = length-take-le ask_limit xs h in
     take_more_set (put_mid ask_limit k xs ys) n w (omega arith) ∙ ap (λ p. p ++ w ∷ []) (take-put_mid_below ask_limit k xs ys n (omega arith) h)
 
-pub follow-returns-in_err-next : goal.follow-returns-in_err-next
-follow-returns-in_err-next g t c =
-    let la : length (take c.args.count c.args.asked) ≡ length (take c.args.count c.args.work.now) = let z = sub-zero c.args.count in search rules in
-    let lc : length (take c.args.count c.args.asked) ≡ c.args.count = let z = sub-zero c.args.count in search rules in
-    let f = c.in_err-next.field-0.0 in
-    let u = turned g.V.Value.canon ((view g c.args.parts.now).traces (number_of c.args.cell)) g.V.Value.blank ((view g c.args.parts.now).defs (number_of c.args.cell)) c.args.asked c.args.work.now c.args.running (number_of c.args.cell) c.args.depth c.args.count {t = Err f} {t' = Err f}
-    refl c.in_err-next.ensures in
+pub follow-returns-in_err-turn : goal.follow-returns-in_err-turn
+follow-returns-in_err-turn g t c =
+    let la : length (take c.loop-turn.count c.loop-turn.asked) ≡ length (take c.loop-turn.count c.loop-turn.work) = front_lengths c.loop-turn.count c.loop-turn.asked c.loop-turn.work (omega (arith, c.loop-turn.invariant.few, c.loop-turn.invariant.room)) (omega (arith, c.loop-turn.invariant.few, c.loop-turn.auto.work)) in
+    let f = c.in_err-turn.field-0.0 in
+    let u = fails_is g.V.Value.canon g.V.Value.alike g.met.V.Value.alike_sound g.met.V.Value.alike_whole g.met.V.Value.steady (g.R.Rebuilder.traces c.loop-turn.parts.rebuilder (number_of c.args.cell)) (take c.loop-turn.count c.loop-turn.asked) (take c.loop-turn.count c.loop-turn.work) la c.args.cell c.args.depth (step_of g.V.Value.blank (g.L.Language.means c.loop-turn.parts.language (number_of c.args.cell)) (map g.V.Value.canon (take c.loop-turn.count c.loop-turn.work))) c.loop-turn.running f c.in_err-turn.ensures in
     let q = err_from_is_err_and c.from_residual.result c.from_residual.ensures.1 in
-    let e : c.from_residual.result ≡ Err (record { number = f.fault.number; mark = f.fault.mark; cell = f.cell; layer = Language; chain = f.chain }) = q.1 ∙ ap Err q.2 in
+    let e : c.from_residual.result ≡ Err f = q.1 ∙ ap Err q.2 in
     record {
-      most = search rules;
-      short = subst (λ z. IfErr z (λ y. y.chain ≤ cell_count)) (sym e) (omega (arith, u.3));
-      path = search rules;
-      follows =
-          follows_as g.V.Value.blank g.R.Rebuilder.depth (view g c.args.parts.now) (view g c.args.parts.now) (map number_of (take c.args.depth c.args.path.now)) (number_of c.args.cell) (pairs_of g.V.Value.canon (take c.args.count c.args.asked) (take c.args.count c.args.work.now)) c.args.running c.args.ran.now c.args.report.now c.args.ran.now c.args.report.now
-          ((λ i. fault f.fault.number f.fault.mark (sym u.2 i) language (map number_of (take (sym u.3 i) c.args.path.now))) ∙ ap (outcome_of g.V.Value.canon c.args.path.now) (sym e))
-          (steps.fails g.V.Value.blank g.R.Rebuilder.depth (discrete g.row.V.coded) g.V.Value.canon (view g c.args.parts.now) (map number_of (take c.args.depth c.args.path.now)) (number_of c.args.cell)
-          (take c.args.count c.args.asked) (take c.args.count c.args.work.now) la c.args.running f.fault.number f.fault.mark c.args.ran.now c.args.report.now u.1);
+      short = subst (λ z. IfErr z (λ y. y.chain ≤ cell_count)) (sym e) (omega (arith, ap (λ z. z.chain) u.1));
+      path = c.loop-turn.invariant.same_path;
+      follows = c.loop-turn.invariant.joins (view g c.loop-turn.parts) c.loop-turn.ran c.loop-turn.report _
+          (follows_as g.V.Value.blank g.R.Rebuilder.depth (view g c.loop-turn.parts) (view g c.loop-turn.parts) (map number_of (take c.args.depth c.args.path.now)) (number_of c.args.cell) (pairs_of g.V.Value.canon (take c.loop-turn.count c.loop-turn.asked) (take c.loop-turn.count c.loop-turn.work)) c.loop-turn.running c.loop-turn.ran c.loop-turn.report c.loop-turn.ran c.loop-turn.report
+          (ap (λ z. fault f.number f.mark (number_of c.args.cell) language (map number_of z)) (sym c.loop-turn.invariant.same_path) ∙ sym (ap (λ z. outcome_of g.V.Value.canon c.loop-turn.path (Err z)) u.1) ∙ ap (outcome_of g.V.Value.canon c.loop-turn.path) (sym e))
+          (steps.fails g.V.Value.blank g.R.Rebuilder.depth (discrete g.row.V.coded) g.V.Value.canon (view g c.loop-turn.parts) (map number_of (take c.args.depth c.args.path.now)) (number_of c.args.cell)
+          (take c.loop-turn.count c.loop-turn.asked) (take c.loop-turn.count c.loop-turn.work) la c.loop-turn.running f.number f.mark c.loop-turn.ran c.loop-turn.report u.0));
     }
 
-pub follow-returns-in-Some : goal.follow-returns-in-Some
-follow-returns-in-Some g t c =
-    let la : length (take c.args.count c.args.asked) ≡ length (take c.args.count c.args.work.now) = let z = sub-zero c.args.count in search rules in
-    let lc : length (take c.args.count c.args.asked) ≡ c.args.count = let z = sub-zero c.args.count in search rules in
-    let u = turned g.V.Value.canon ((view g c.args.parts.now).traces (number_of c.args.cell)) g.V.Value.blank ((view g c.args.parts.now).defs (number_of c.args.cell)) c.args.asked c.args.work.now c.args.running (number_of c.args.cell) c.args.depth c.args.count
-    (ap Ok c.in-Ask.is) c.in_ok-next.ensures in
-    let af = ask_faulted c.args.count (length (take c.args.count c.args.asked)) ((view g c.args.parts.now).cause (number_of c.in-Ask.wanted) ≡ none → ⊥) (number_of c.in-Ask.wanted) c.args.depth c.args.path.now (Some c.in-Some.number) (sym lc) c.in-Some.ensures in
+pub follow-returns-in_err-check_ask-in-Ask : goal.follow-returns-in_err-check_ask-in-Ask
+follow-returns-in_err-check_ask-in-Ask g t c =
+    let la : length (take c.loop-turn.count c.loop-turn.asked) ≡ length (take c.loop-turn.count c.loop-turn.work) = front_lengths c.loop-turn.count c.loop-turn.asked c.loop-turn.work (omega (arith, c.loop-turn.invariant.few, c.loop-turn.invariant.room)) (omega (arith, c.loop-turn.invariant.few, c.loop-turn.auto.work)) in
+    let lc : length (take c.loop-turn.count c.loop-turn.asked) ≡ c.loop-turn.count = length-take-le c.loop-turn.count c.loop-turn.asked (omega (arith, c.loop-turn.invariant.few, c.loop-turn.invariant.room)) in
+    let lp : length (take c.args.depth c.args.path.now) ≡ c.args.depth = length-take-le c.args.depth c.args.path.now (omega arith) in
+    let u = wants_is g.V.Value.canon g.V.Value.alike g.met.V.Value.alike_sound g.met.V.Value.alike_whole g.met.V.Value.steady (g.R.Rebuilder.traces c.loop-turn.parts.rebuilder (number_of c.args.cell)) (take c.loop-turn.count c.loop-turn.asked) (take c.loop-turn.count c.loop-turn.work) la c.args.cell c.args.depth (step_of g.V.Value.blank (g.L.Language.means c.loop-turn.parts.language (number_of c.args.cell)) (map g.V.Value.canon (take c.loop-turn.count c.loop-turn.work))) c.loop-turn.running c.in-Ask.wanted c.in_ok-turn.turn c.in-Ask.is c.in_ok-turn.ensures in
+    let f = c.in_err-check_ask-in-Ask.field-0.0 in
+    let k = checked_on c.args.cell (number_of c.in-Ask.wanted) c.loop-turn.count ((view g c.loop-turn.parts).cause (number_of c.in-Ask.wanted) ≡ none → ⊥) (Err f) c.loop-turn.invariant.same_path c.in_err-check_ask-in-Ask.ensures in
+    let q = err_from_is_err_and c.from_residual-in_err-check_ask-in-Ask.result c.from_residual-in_err-check_ask-in-Ask.ensures.1 in
+    let e : c.from_residual-in_err-check_ask-in-Ask.result ≡ Err f = q.1 ∙ ap Err q.2 in
     record {
-      most = search rules;
-      short = search rules;
-      path = search rules;
-      follows =
-          follows_as g.V.Value.blank g.R.Rebuilder.depth (view g c.args.parts.now) (view g c.args.parts.now) (map number_of (take c.args.depth c.args.path.now)) (number_of c.args.cell) (pairs_of g.V.Value.canon (take c.args.count c.args.asked) (take c.args.count c.args.work.now)) c.args.running c.args.ran.now c.args.report.now c.args.ran.now c.args.report.now
-          (ap (λ z. fault c.in-Some.number z (number_of c.args.cell) engine (map number_of (take c.args.depth c.args.path.now))) (sym c.number.ensures.value))
-          (steps.ask_fails g.V.Value.blank g.R.Rebuilder.depth (discrete g.row.V.coded) g.V.Value.canon (view g c.args.parts.now) (map number_of (take c.args.depth c.args.path.now)) (number_of c.args.cell)
-          (take c.args.count c.args.asked) (take c.args.count c.args.work.now) la c.args.running (number_of c.in-Ask.wanted) c.in-Some.number c.args.ran.now c.args.report.now u af);
+      short = subst (λ z. IfErr z (λ y. y.chain ≤ cell_count)) (sym e) (omega (arith, ap (λ z. z.chain) k.1, lp));
+      path = c.loop-turn.invariant.same_path;
+      follows = c.loop-turn.invariant.joins (view g c.loop-turn.parts) c.loop-turn.ran c.loop-turn.report _
+          (follows_as g.V.Value.blank g.R.Rebuilder.depth (view g c.loop-turn.parts) (view g c.loop-turn.parts) (map number_of (take c.args.depth c.args.path.now)) (number_of c.args.cell) (pairs_of g.V.Value.canon (take c.loop-turn.count c.loop-turn.asked) (take c.loop-turn.count c.loop-turn.work)) c.loop-turn.running c.loop-turn.ran c.loop-turn.report c.loop-turn.ran c.loop-turn.report
+          (ap (λ z. fault f.number (number_of c.in-Ask.wanted) (number_of c.args.cell) engine (map number_of z)) (sym c.loop-turn.invariant.same_path)
+          ∙ ap (λ z. fault f.number (number_of c.in-Ask.wanted) (number_of c.args.cell) engine (map number_of (take z c.loop-turn.path))) (sym lp) ∙ sym (ap (λ z. outcome_of g.V.Value.canon c.loop-turn.path (Err z)) k.1) ∙ ap (outcome_of g.V.Value.canon c.loop-turn.path) (sym e))
+          (steps.ask_fails g.V.Value.blank g.R.Rebuilder.depth (discrete g.row.V.coded) g.V.Value.canon (view g c.loop-turn.parts) (map number_of (take c.args.depth c.args.path.now)) (number_of c.args.cell)
+          (take c.loop-turn.count c.loop-turn.asked) (take c.loop-turn.count c.loop-turn.work) la c.loop-turn.running (number_of c.in-Ask.wanted) c.loop-turn.count f.number c.loop-turn.ran c.loop-turn.report (sym lc) u k.0));
     }
 
-pub follow-returns-in_err-value-in-None : goal.follow-returns-in_err-value-in-None
-follow-returns-in_err-value-in-None g t c =
-    let la : length (take c.args.count c.args.asked) ≡ length (take c.args.count c.args.work.now) = let z = sub-zero c.args.count in search rules in
-    let lc : length (take c.args.count c.args.asked) ≡ c.args.count = let z = sub-zero c.args.count in search rules in
-    let u = turned g.V.Value.canon ((view g c.args.parts.now).traces (number_of c.args.cell)) g.V.Value.blank ((view g c.args.parts.now).defs (number_of c.args.cell)) c.args.asked c.args.work.now c.args.running (number_of c.args.cell) c.args.depth c.args.count
-    (ap Ok c.in-Ask.is) c.in_ok-next.ensures in
-    let af = ask_faulted c.args.count (length (take c.args.count c.args.asked)) ((view g c.args.parts.now).cause (number_of c.in-Ask.wanted) ≡ none → ⊥) (number_of c.in-Ask.wanted) c.args.depth c.args.path.now None (sym lc) c.in-None.ensures in
-    let f = c.in_err-value-in-None.field-0.0 in
-    let q = err_from_is_err_and c.from_residual-in_err-value-in-None.result c.from_residual-in_err-value-in-None.ensures.1 in
-    let e : c.from_residual-in_err-value-in-None.result ≡ Err f = q.1 ∙ ap Err q.2 in
-    let s = c.settle.ensures in
+pub follow-returns-in_err-value-in-Ask : goal.follow-returns-in_err-value-in-Ask
+follow-returns-in_err-value-in-Ask g t c =
+    let la : length (take c.loop-turn.count c.loop-turn.asked) ≡ length (take c.loop-turn.count c.loop-turn.work) = front_lengths c.loop-turn.count c.loop-turn.asked c.loop-turn.work (omega (arith, c.loop-turn.invariant.few, c.loop-turn.invariant.room)) (omega (arith, c.loop-turn.invariant.few, c.loop-turn.auto.work)) in
+    let lc : length (take c.loop-turn.count c.loop-turn.asked) ≡ c.loop-turn.count = length-take-le c.loop-turn.count c.loop-turn.asked (omega (arith, c.loop-turn.invariant.few, c.loop-turn.invariant.room)) in
+    let u = wants_is g.V.Value.canon g.V.Value.alike g.met.V.Value.alike_sound g.met.V.Value.alike_whole g.met.V.Value.steady (g.R.Rebuilder.traces c.loop-turn.parts.rebuilder (number_of c.args.cell)) (take c.loop-turn.count c.loop-turn.asked) (take c.loop-turn.count c.loop-turn.work) la c.args.cell c.args.depth (step_of g.V.Value.blank (g.L.Language.means c.loop-turn.parts.language (number_of c.args.cell)) (map g.V.Value.canon (take c.loop-turn.count c.loop-turn.work))) c.loop-turn.running c.in-Ask.wanted c.in_ok-turn.turn c.in-Ask.is c.in_ok-turn.ensures in
+    let k = checked_on c.args.cell (number_of c.in-Ask.wanted) c.loop-turn.count ((view g c.loop-turn.parts).cause (number_of c.in-Ask.wanted) ≡ none → ⊥) (Ok c.in_ok-check_ask-in-Ask.field-0) c.loop-turn.invariant.same_path c.in_ok-check_ask-in-Ask.ensures in
+    let f = c.in_err-value-in-Ask.field-0.0 in
+    let q = err_from_is_err_and c.from_residual-in_err-value-in-Ask.result c.from_residual-in_err-value-in-Ask.ensures.1 in
+    let e : c.from_residual-in_err-value-in-Ask.result ≡ Err f = q.1 ∙ ap Err q.2 in
+    let s = c.in_err-value-in-Ask.ensures in
     record {
-      most = s.most;
-      short = search rules;
-      path = s.path;
-      follows =
-          follows_as g.V.Value.blank g.R.Rebuilder.depth (view g c.args.parts.now) (view g c.settle.new.parts) (map number_of (take c.args.depth c.args.path.now)) (number_of c.args.cell) (pairs_of g.V.Value.canon (take c.args.count c.args.asked) (take c.args.count c.args.work.now)) c.args.running c.args.ran.now c.args.report.now c.settle.new.ran c.settle.new.report
+      short = subst (λ z. IfErr z (λ y. y.chain ≤ cell_count)) (sym e) s.short;
+      path = s.path ∙ c.loop-turn.invariant.same_path;
+      follows = c.loop-turn.invariant.joins (view g c.settle.new.parts) c.settle.new.ran c.settle.new.report _
+          (follows_as g.V.Value.blank g.R.Rebuilder.depth (view g c.loop-turn.parts) (view g c.settle.new.parts) (map number_of (take c.args.depth c.args.path.now)) (number_of c.args.cell) (pairs_of g.V.Value.canon (take c.loop-turn.count c.loop-turn.asked) (take c.loop-turn.count c.loop-turn.work)) c.loop-turn.running c.loop-turn.ran c.loop-turn.report c.settle.new.ran c.settle.new.report
           (ap (outcome_of g.V.Value.canon c.settle.new.path) (sym e))
-          (steps.sinks g.V.Value.blank g.R.Rebuilder.depth (discrete g.row.V.coded) g.V.Value.canon (view g c.args.parts.now) (map number_of (take c.args.depth c.args.path.now)) (number_of c.args.cell)
-          (take c.args.count c.args.asked) (take c.args.count c.args.work.now) la c.args.running (number_of c.in-Ask.wanted) (view g c.settle.new.parts) c.args.ran.now c.args.report.now c.settle.new.ran c.settle.new.report
-          f.number f.mark (number_of f.cell) (layer_of f.layer) (map number_of (take f.chain c.settle.new.path)) u af.0 af.1 c.in_err-value-in-None.ensures.settles);
+          (steps.sinks g.V.Value.blank g.R.Rebuilder.depth (discrete g.row.V.coded) g.V.Value.canon (view g c.loop-turn.parts) (map number_of (take c.args.depth c.args.path.now)) (number_of c.args.cell)
+          (take c.loop-turn.count c.loop-turn.asked) (take c.loop-turn.count c.loop-turn.work) la c.loop-turn.running (number_of c.in-Ask.wanted) (view g c.settle.new.parts) c.loop-turn.ran c.loop-turn.report c.settle.new.ran c.settle.new.report
+          f.number f.mark (number_of f.cell) (layer_of f.layer) (map number_of (take f.chain c.settle.new.path)) u (omega (arith, k.0, lc)) k.1
+          (settled_on g.V.Value.blank g.R.Rebuilder.depth (view g c.loop-turn.parts) (view g c.settle.new.parts) (number_of c.in-Ask.wanted) c.loop-turn.ran c.loop-turn.report c.settle.new.ran c.settle.new.report _ c.loop-turn.invariant.same_path s.settles)));
     }
 
-pub follow-returns-in-Keep : goal.follow-returns-in-Keep
-follow-returns-in-Keep g t c =
-    let la : length (take c.args.count c.args.asked) ≡ length (take c.args.count c.args.work.now) = let z = sub-zero c.args.count in search rules in
-    let lc : length (take c.args.count c.args.asked) ≡ c.args.count = let z = sub-zero c.args.count in search rules in
-    let u = turned g.V.Value.canon ((view g c.args.parts.now).traces (number_of c.args.cell)) g.V.Value.blank ((view g c.args.parts.now).defs (number_of c.args.cell)) c.args.asked c.args.work.now c.args.running (number_of c.args.cell) c.args.depth c.args.count
-    (ap Ok c.in-Keep.is) c.in_ok-next.ensures in
+pub follow-returns-in-Done : goal.follow-returns-in-Done
+follow-returns-in-Done g t c =
+    let la : length (take c.loop-turn.count c.loop-turn.asked) ≡ length (take c.loop-turn.count c.loop-turn.work) = front_lengths c.loop-turn.count c.loop-turn.asked c.loop-turn.work (omega (arith, c.loop-turn.invariant.few, c.loop-turn.invariant.room)) (omega (arith, c.loop-turn.invariant.few, c.loop-turn.auto.work)) in
+    let lc : length (take c.loop-turn.count c.loop-turn.asked) ≡ c.loop-turn.count = length-take-le c.loop-turn.count c.loop-turn.asked (omega (arith, c.loop-turn.invariant.few, c.loop-turn.invariant.room)) in
+    let u = ends_is g.V.Value.canon g.V.Value.alike g.met.V.Value.alike_sound g.met.V.Value.alike_whole g.met.V.Value.steady (g.R.Rebuilder.traces c.loop-turn.parts.rebuilder (number_of c.args.cell)) (take c.loop-turn.count c.loop-turn.asked) (take c.loop-turn.count c.loop-turn.work) la c.args.cell c.args.depth (step_of g.V.Value.blank (g.L.Language.means c.loop-turn.parts.language (number_of c.args.cell)) (map g.V.Value.canon (take c.loop-turn.count c.loop-turn.work))) c.loop-turn.running c.in-Done.value c.in_ok-turn.turn c.in-Done.is c.in_ok-turn.ensures in
     record {
-      most = search rules;
-      short = search rules;
-      path = search rules;
-      follows =
-          steps.kept g.V.Value.blank g.R.Rebuilder.depth (discrete g.row.V.coded) g.V.Value.canon (view g c.args.parts.now) (map number_of (take c.args.depth c.args.path.now)) (number_of c.args.cell)
-          (take c.args.count c.args.asked) (take c.args.count c.args.work.now) la c.args.running c.in-Keep.value (view g c.end_doubt.new.parts) c.args.ran.now c.args.report.now u.1 c.end_doubt.ensures;
+      short = tt;
+      path = c.loop-turn.invariant.same_path;
+      follows = c.loop-turn.invariant.joins (view g c.conclude.new.parts) c.conclude.new.ran c.conclude.new.report _
+          (steps.done g.V.Value.blank g.R.Rebuilder.depth (discrete g.row.V.coded) g.V.Value.canon (view g c.loop-turn.parts) (map number_of (take c.args.depth c.args.path.now)) (number_of c.args.cell)
+          (take c.loop-turn.count c.loop-turn.asked) (take c.loop-turn.count c.loop-turn.work) la (omega (arith, lc, c.loop-turn.invariant.few)) c.loop-turn.running c.args.cell c.in-Done.value (view g c.conclude.new.parts) c.loop-turn.ran c.loop-turn.report c.conclude.new.ran c.conclude.new.report
+          (record_in c.loop-turn.parts.table (number_of c.args.cell)).cause refl refl u c.conclude.ensures.concludes c.conclude.ensures.count c.conclude.ensures.list);
     }
 
-pub follow-returns-in-Begin : goal.follow-returns-in-Begin
-follow-returns-in-Begin g t c =
-    let la : length (take c.args.count c.args.asked) ≡ length (take c.args.count c.args.work.now) = let z = sub-zero c.args.count in search rules in
-    let lc : length (take c.args.count c.args.asked) ≡ c.args.count = let z = sub-zero c.args.count in search rules in
-    let u = turned g.V.Value.canon ((view g c.args.parts.now).traces (number_of c.args.cell)) g.V.Value.blank ((view g c.args.parts.now).defs (number_of c.args.cell)) c.args.asked c.args.work.now c.args.running (number_of c.args.cell) c.args.depth c.args.count
-    (ap Ok c.in-Begin.is) c.in_ok-next.ensures in
-    let q = c.follow.ensures in
+pub follow-loop-turn-preserved-in-Begin : goal.follow-loop-turn-preserved-in-Begin
+follow-loop-turn-preserved-in-Begin g t c =
+    let la : length (take c.loop-turn.count c.loop-turn.asked) ≡ length (take c.loop-turn.count c.loop-turn.work) = front_lengths c.loop-turn.count c.loop-turn.asked c.loop-turn.work (omega (arith, c.loop-turn.invariant.few, c.loop-turn.invariant.room)) (omega (arith, c.loop-turn.invariant.few, c.loop-turn.auto.work)) in
+    let u = begins_is g.V.Value.canon g.V.Value.alike g.met.V.Value.alike_sound g.met.V.Value.alike_whole g.met.V.Value.steady (g.R.Rebuilder.traces c.loop-turn.parts.rebuilder (number_of c.args.cell)) (take c.loop-turn.count c.loop-turn.asked) (take c.loop-turn.count c.loop-turn.work) la c.args.cell c.args.depth (step_of g.V.Value.blank (g.L.Language.means c.loop-turn.parts.language (number_of c.args.cell)) (map g.V.Value.canon (take c.loop-turn.count c.loop-turn.work))) c.loop-turn.running c.in_ok-turn.turn c.in-Begin.is c.in_ok-turn.ensures in
     record {
-      most = q.most;
-      short = q.short;
-      path = q.path;
-      follows =
-          steps.begun g.V.Value.blank g.R.Rebuilder.depth (discrete g.row.V.coded) g.V.Value.canon (view g c.args.parts.now) (map number_of (take c.args.depth c.args.path.now)) (number_of c.args.cell)
-          (take c.args.count c.args.asked) (take c.args.count c.args.work.now) la c.args.running (view g c.follow.new.parts) c.args.ran.now c.args.report.now c.follow.new.ran c.follow.new.report _ u.1 q.follows;
+      few = omega arith;
+      room = c.loop-turn.invariant.room;
+      same_path = c.loop-turn.invariant.same_path;
+      joins = λ after ran' list' o f. c.loop-turn.invariant.joins after ran' list' o (steps.begun g.V.Value.blank g.R.Rebuilder.depth (discrete g.row.V.coded) g.V.Value.canon (view g c.loop-turn.parts) (map number_of (take c.args.depth c.args.path.now)) (number_of c.args.cell)
+          (take c.loop-turn.count c.loop-turn.asked) (take c.loop-turn.count c.loop-turn.work) la c.loop-turn.running after c.loop-turn.ran c.loop-turn.report ran' list' o u f);
     }
 
-pub follow-returns-in-Give : goal.follow-returns-in-Give
-follow-returns-in-Give g t c =
-    let la : length (take c.args.count c.args.asked) ≡ length (take c.args.count c.args.work.now) = let z = sub-zero c.args.count in search rules in
-    let lc : length (take c.args.count c.args.asked) ≡ c.args.count = let z = sub-zero c.args.count in search rules in
-    let u = turned g.V.Value.canon ((view g c.args.parts.now).traces (number_of c.args.cell)) g.V.Value.blank ((view g c.args.parts.now).defs (number_of c.args.cell)) c.args.asked c.args.work.now c.args.running (number_of c.args.cell) c.args.depth c.args.count
-    (ap Ok c.in-Give.is) c.in_ok-next.ensures in
+pub follow-loop-turn-preserved : goal.follow-loop-turn-preserved
+follow-loop-turn-preserved g t c =
+    let la : length (take c.loop-turn.count c.loop-turn.asked) ≡ length (take c.loop-turn.count c.loop-turn.work) = front_lengths c.loop-turn.count c.loop-turn.asked c.loop-turn.work (omega (arith, c.loop-turn.invariant.few, c.loop-turn.invariant.room)) (omega (arith, c.loop-turn.invariant.few, c.loop-turn.auto.work)) in
+    let lc : length (take c.loop-turn.count c.loop-turn.asked) ≡ c.loop-turn.count = length-take-le c.loop-turn.count c.loop-turn.asked (omega (arith, c.loop-turn.invariant.few, c.loop-turn.invariant.room)) in
+    let u = wants_is g.V.Value.canon g.V.Value.alike g.met.V.Value.alike_sound g.met.V.Value.alike_whole g.met.V.Value.steady (g.R.Rebuilder.traces c.loop-turn.parts.rebuilder (number_of c.args.cell)) (take c.loop-turn.count c.loop-turn.asked) (take c.loop-turn.count c.loop-turn.work) la c.args.cell c.args.depth (step_of g.V.Value.blank (g.L.Language.means c.loop-turn.parts.language (number_of c.args.cell)) (map g.V.Value.canon (take c.loop-turn.count c.loop-turn.work))) c.loop-turn.running c.in-Ask.wanted c.in_ok-turn.turn c.in-Ask.is c.in_ok-turn.ensures in
+    let k = checked_on c.args.cell (number_of c.in-Ask.wanted) c.loop-turn.count ((view g c.loop-turn.parts).cause (number_of c.in-Ask.wanted) ≡ none → ⊥) (Ok c.in_ok-check_ask-in-Ask.field-0) c.loop-turn.invariant.same_path c.in_ok-check_ask-in-Ask.ensures in
+    let s = c.in_ok-value-in-Ask.ensures in
+    let xa : take (c.loop-turn.count + 1) (set c.loop-turn.asked c.loop-turn.count c.in-Ask.wanted) ≡ (take c.loop-turn.count c.loop-turn.asked) ++ (c.in-Ask.wanted ∷ []) = take_more_set c.loop-turn.asked c.loop-turn.count c.in-Ask.wanted (omega (arith, k.0, c.loop-turn.invariant.room)) in
+    let xw = placed c.loop-turn.work c.settle.new.work c.loop-turn.count _ c.in_ok-value-in-Ask.value k.0 (omega (arith, c.loop-turn.auto.work)) in
     record {
-      most = search rules;
-      short = search rules;
-      path = search rules;
-      follows =
-          subst (λ b. Follows g.V.Value.blank g.R.Rebuilder.depth (view g c.args.parts.now) (view g c.conclude.new.parts) (map number_of (take c.args.depth c.args.path.now)) (number_of c.args.cell) (pairs_of g.V.Value.canon (take c.args.count c.args.asked) (take c.args.count c.args.work.now)) b c.args.ran.now c.args.report.now c.conclude.new.ran c.conclude.new.report (outcome_of g.V.Value.canon c.args.path.now (Ok c.in-Give.value))) (sym u.0)
-          (steps.given g.V.Value.blank g.R.Rebuilder.depth (discrete g.row.V.coded) g.V.Value.canon (view g c.args.parts.now) (map number_of (take c.args.depth c.args.path.now)) (number_of c.args.cell)
-          (take c.args.count c.args.asked) (take c.args.count c.args.work.now) la c.args.cell c.in-Give.value (view g c.conclude.new.parts) c.args.ran.now c.args.report.now c.conclude.new.ran c.conclude.new.report (record_in c.args.parts.now.table (number_of c.args.cell)).cause refl refl u.1 c.conclude.ensures.concludes c.conclude.ensures.reports);
-    }
-
-pub follow-returns-in_ok-value-in-None : goal.follow-returns-in_ok-value-in-None
-follow-returns-in_ok-value-in-None g t c =
-    let la : length (take c.args.count c.args.asked) ≡ length (take c.args.count c.args.work.now) = let z = sub-zero c.args.count in search rules in
-    let lc : length (take c.args.count c.args.asked) ≡ c.args.count = let z = sub-zero c.args.count in search rules in
-    let u = turned g.V.Value.canon ((view g c.args.parts.now).traces (number_of c.args.cell)) g.V.Value.blank ((view g c.args.parts.now).defs (number_of c.args.cell)) c.args.asked c.args.work.now c.args.running (number_of c.args.cell) c.args.depth c.args.count
-    (ap Ok c.in-Ask.is) c.in_ok-next.ensures in
-    let q = c.follow-in-None.ensures in
-    let s = c.settle.ensures in
-    let af = ask_faulted c.args.count (length (take c.args.count c.args.asked)) ((view g c.args.parts.now).cause (number_of c.in-Ask.wanted) ≡ none → ⊥) (number_of c.in-Ask.wanted) c.args.depth c.args.path.now None (sym lc) c.in-None.ensures in
-    let sh : c.args.count < ask_limit = omega (arith, af.0, lc) in
-    let xa : take (c.args.count + 1) (set c.args.asked c.args.count c.in-Ask.wanted) ≡ (take c.args.count c.args.asked) ++ (c.in-Ask.wanted ∷ []) = take_more_set c.args.asked c.args.count c.in-Ask.wanted (search rules) in
-    let xw = placed c.args.work.now c.settle.new.work c.args.count _ c.in_ok-value-in-None.value sh (omega (arith, c.requires.1.1.1.1)) in
-    record {
-      most = q.most;
-      short = q.short;
-      path = q.path ∙ s.path;
-      follows =
-          steps.goes_on g.V.Value.blank g.R.Rebuilder.depth (discrete g.row.V.coded) g.V.Value.canon (view g c.args.parts.now) (map number_of (take c.args.depth c.args.path.now)) (number_of c.args.cell)
-          (take c.args.count c.args.asked) (take c.args.count c.args.work.now) la c.args.running (number_of c.in-Ask.wanted) c.in_ok-value-in-None.value (view g c.settle.new.parts) (view g c.follow-in-None.new.parts) c.args.ran.now c.args.report.now c.settle.new.ran c.settle.new.report c.follow-in-None.new.ran c.follow-in-None.new.report _ _ _
-          u af.0 af.1 c.in_ok-value-in-None.ensures.settles (ap (map number_of) c.settle.ensures.path)
-          (pairs_on g.V.Value.canon (take c.args.count c.args.asked) (take c.args.count c.args.work.now) c.in-Ask.wanted c.in_ok-value-in-None.value xa (ap (take (c.args.count + 1)) c.put.ensures ∙ xw) la)
-          q.follows;
+      few = omega (arith, k.0);
+      room = length-set c.loop-turn.asked c.loop-turn.count c.in-Ask.wanted ∙ c.loop-turn.invariant.room;
+      same_path = s.path ∙ c.loop-turn.invariant.same_path;
+      joins = λ after ran' list' o f. c.loop-turn.invariant.joins after ran' list' o
+          (steps.goes_on g.V.Value.blank g.R.Rebuilder.depth (discrete g.row.V.coded) g.V.Value.canon (view g c.loop-turn.parts) (map number_of (take c.args.depth c.args.path.now)) (number_of c.args.cell)
+          (take c.loop-turn.count c.loop-turn.asked) (take c.loop-turn.count c.loop-turn.work) la c.loop-turn.running (number_of c.in-Ask.wanted) c.in_ok-value-in-Ask.value (view g c.settle.new.parts) after c.loop-turn.ran c.loop-turn.report c.settle.new.ran c.settle.new.report ran' list' o (map number_of (take c.args.depth c.args.path.now)) _
+          u (omega (arith, k.0, lc)) k.1
+          (settled_on g.V.Value.blank g.R.Rebuilder.depth (view g c.loop-turn.parts) (view g c.settle.new.parts) (number_of c.in-Ask.wanted) c.loop-turn.ran c.loop-turn.report c.settle.new.ran c.settle.new.report _ c.loop-turn.invariant.same_path s.settles) refl
+          (pairs_on g.V.Value.canon (take c.loop-turn.count c.loop-turn.asked) (take c.loop-turn.count c.loop-turn.work) c.in-Ask.wanted c.in_ok-value-in-Ask.value xa (ap (take (c.loop-turn.count + 1)) c.put.ensures ∙ xw) la)
+          f);
     }
 
 pub settle-returns-then-not-in_doubt : goal.settle-returns-then-not-in_doubt
 settle-returns-then-not-in_doubt g t c =
     record {
-      most = search rules;
-      short = search rules;
-      path = search rules;
+      short = tt;
+      path = refl;
       settles =
           steps.settled_read g.V.Value.blank g.R.Rebuilder.depth (discrete g.row.V.coded) (view g c.args.parts.now) (map number_of (take c.args.depth c.args.path.now)) (number_of c.args.cell) (g.V.Value.canon c.read_stored.result) c.args.ran.now c.args.report.now c.read_stored.ensures (c.if-not-in_doubt.ensures.no refl);
     }
@@ -178,9 +147,8 @@ settle-returns-then-not-in_doubt g t c =
 pub settle-returns-then-depth-ge-CELLS : goal.settle-returns-then-depth-ge-CELLS
 settle-returns-then-depth-ge-CELLS g t c =
     record {
-      most = search rules;
-      short = search rules;
-      path = search rules;
+      short = omega arith;
+      path = refl;
       settles =
           steps.too_deep g.V.Value.blank g.R.Rebuilder.depth (discrete g.row.V.coded) (view g c.args.parts.now) (map number_of (take c.args.depth c.args.path.now)) (number_of c.args.cell) (view g c.args.parts.now) c.args.ran.now c.args.report.now c.args.ran.now c.args.report.now _ (omega (arith, length_map number_of (take c.args.depth c.args.path.now), length-take-le c.args.depth c.args.path.now (omega arith))) (c.if-not-in_doubt.ensures.yes tt);
     }
@@ -189,7 +157,6 @@ pub settle-returns : goal.settle-returns
 settle-returns g t c =
     let q = c.follow.ensures in
     record {
-      most = q.most;
       short = q.short;
       path = front_back c.follow.new.path c.args.path.now c.args.depth c.args.cell q.path;
       settles =

@@ -1,10 +1,10 @@
 -- How writes to the parts change what the workbook shows.
-use Rattle.std.proofs.Common.{◌≡◌, ℕ, zero, suc, ◌≤◌, Bool, cond, List, [], ◌∷◌, map, length, take, None, Ok, sym, refl, ap, ◌∙◌, subst}
+use Rattle.std.proofs.Common.{◌≡◌, ℕ, zero, suc, Bool, true, false, cond, eqb, leb, List, [], ◌∷◌, map, length, take, None, Ok, Err, sym, refl, ap, ◌∙◌, subst}
 use mathlib.Core.Option.{Option}
 use native.Mathlib.Decide.{ℕ_discrete}
-use Rattle.std.proofs.lemmas.Bool.{eq-eqb, le-leb}
 use Rattle.interfaces.specs.declared.cell.Cell.{Cell}
 use Rattle.interfaces.specs.Cells.{ask_limit, number_of, but}
+use Rattle.interfaces.specs.Refusals.{no as refusal}
 use Rattle.interfaces.specs.Tasks.{Def}
 use Rattle.interfaces.specs.Traces.{Trace, pairs_of, recording, after_recording}
 use Rattle.past.specs.Past.{changed}
@@ -13,7 +13,7 @@ use Rattle.midway.specs.Planning.{plain_pair, plain_trace}
 use Rattle.view.specs.View.{View}
 use Rattle.table.specs.declared.Record.{Record}
 use Rattle.table.specs.Records.{number_in, marked_in, cause_in, asked_in}
-use Rattle.scheduler.specs.Moves.{Closes, Concludes}
+use Rattle.moves.specs.Moves.{Closes, Concludes}
 
 -- what parts show that have these meanings and these records
 abbrev pub seen : {V : Type 0} → (V → V) → (ℕ → V) → (ℕ → Bool) → (ℕ → Option (Def V)) → (ℕ → List (Trace V)) → (ℕ → Record) → View V
@@ -46,6 +46,11 @@ changed_same x g k = go (ℕ_discrete k x)
     go (yes e) = changed_here x (g x) g k e ∙ ap g (sym e)
     go (no n) = changed_away x (g x) g k n
 
+-- a write to a cell that may be locked
+written : {V : Type 0} (b : Bool) (x : ℕ) (v : V) (f : ℕ → V) (k : ℕ) → cond b (f k) (but x v f k) ≡ changed x (cond b (f x) v) f k
+written true x v f k = sym (changed_same x f k)
+written false x v f k = but_changed x v f k
+
 module _ {V : Type 0} (canon : V → V) (shows shows' : ℕ → V) (locked locked' : ℕ → Bool) (means : ℕ → Option (Def V)) (traces : ℕ → List (Trace V)) (rows rows' : ℕ → Record)
     (x : ℕ) (v : V) (row : Record) (count : ℕ) (asked : List Cell) where
   -- a write, and a record without cause
@@ -53,8 +58,8 @@ module _ {V : Type 0} (canon : V → V) (shows shows' : ℕ → V) (locked locke
       → ((k : ℕ) → rows' k ≡ but x (record { defined = row.defined; cause = None; asked = asked; count = count }) rows k)
       → Closes (seen canon shows locked means traces rows) (seen canon shows' locked' means traces rows') x v (map number_of (take count asked))
   closes wr lk here rs = record {
-    ended = λ open'. record {
-      stored_is = λ k. wr k ∙ ap (λ z. cond z (canon (shows k)) (but x v (λ j. canon (shows j)) k)) open' ∙ but_changed x v (λ j. canon (shows j)) k;
+    ended = record {
+      stored_is = λ k. wr k ∙ written (locked x) x v (λ j. canon (shows j)) k;
       locked_is = lk;
       defs_is = λ k. refl;
       marked_is = λ k. ap (λ z. z.defined) (rows_are k) ∙ changed_map (λ z. z.defined) x new rows k ∙ ap (λ z. changed x z.defined (λ y. (rows y).defined) k) here ∙ changed_same x (λ y. (rows y).defined) k;
@@ -84,26 +89,34 @@ module _ {V : Type 0} (canon : V → V) (steady : (x : V) → canon (canon x) �
   plain_trace_lem : (cs : List Cell) (vs : List V) (v : V) → ◌≡◌ {A = Trace V} (plain_trace canon (record { asks = pairs_of canon cs vs; result = canon v })) (record { asks = pairs_of canon cs vs; result = canon v })
   plain_trace_lem cs vs v = λ i. record { asks = plain_pairs cs vs i; result = steady v i }
 
-  taken_down : (cs : List Cell) (vs : List V) (v : V) → length cs ≡ length vs → length cs ≤ ask_limit → recording canon cs vs v ≡ Ok (record { asks = pairs_of canon cs vs; result = canon v })
-  taken_down cs vs v n h = rw (eq-eqb (length cs) (length vs) n, le-leb (length cs) ask_limit h) refl
-
-  -- a recording
-  recorded : (depth : ℕ) (traces traces' : ℕ → List (Trace V)) (x : ℕ) (cs : List Cell) (vs : List V) (v : V) → length cs ≡ length vs → length cs ≤ ask_limit
-      → ((k : ℕ) → traces' k ≡ after_recording depth (recording canon cs vs v) x traces k)
-      → (k : ℕ) → map (plain_trace canon) (traces' k) ≡ changed x (take depth (record { asks = pairs_of canon cs vs; result = canon v } ∷ map (plain_trace canon) (traces x))) (λ y. map (plain_trace canon) (traces y)) k
-  recorded depth traces traces' x cs vs v n h tr k =
+  -- a recording shows as it is, since it has normal forms
+  recorded : (a b : Bool) (depth : ℕ) (traces : ℕ → List (Trace V)) (x : ℕ) (cs : List Cell) (vs : List V) (v : V) (k : ℕ)
+      → map (plain_trace canon) (after_recording depth (cond a (cond b (Ok (record { asks = pairs_of canon cs vs; result = canon v })) (Err (refusal 9))) (Err (refusal 9))) x traces k)
+      ≡ after_recording depth (cond a (cond b (Ok (record { asks = pairs_of canon cs vs; result = canon v })) (Err (refusal 9))) (Err (refusal 9))) x (λ y. map (plain_trace canon) (traces y)) k
+  recorded false b depth traces x cs vs v k = refl
+  recorded true false depth traces x cs vs v k = refl
+  recorded true true depth traces x cs vs v k =
       let t : Trace V = record { asks = pairs_of canon cs vs; result = canon v } in
-      ap (map (plain_trace canon)) (tr k ∙ ap (λ z. after_recording depth z x traces k) (taken_down cs vs v n h) ∙ but_changed x (take depth (t ∷ traces x)) traces k)
+      ap (map (plain_trace canon)) (but_changed x (take depth (t ∷ traces x)) traces k)
       ∙ changed_map (map (plain_trace canon)) x (take depth (t ∷ traces x)) traces k
       ∙ ap (λ z. changed x z (λ y. map (plain_trace canon) (traces y)) k) (map_take (plain_trace canon) depth (t ∷ traces x) ∙ ap (λ z. take depth (z ∷ map (plain_trace canon) (traces x))) (plain_trace_lem cs vs v))
+      ∙ sym (but_changed x (take depth (t ∷ map (plain_trace canon) (traces x))) (λ y. map (plain_trace canon) (traces y)) k)
 
   -- a recording, and then a value
-  pub concludes : (depth : ℕ) (shows : ℕ → V) (locked : ℕ → Bool) (means : ℕ → Option (Def V)) (traces traces' : ℕ → List (Trace V)) (rows : ℕ → Record) (w' : View V) (x n count : ℕ) (asked : List Cell) (work : List V) (v : V)
-      → n ≡ count → length (take count asked) ≡ length (take count work) → length (take count asked) ≤ ask_limit
-      → ((k : ℕ) → traces' k ≡ after_recording depth (recording canon (take n asked) (take n work) v) x traces k)
-      → Closes (seen canon shows locked means traces' rows) w' x (canon v) (map number_of (take count asked))
-      → Concludes depth (seen canon shows locked means traces rows) w' x (pairs_of canon (take count asked) (take count work)) (canon v) (map number_of (take count asked))
-  concludes depth shows locked means traces traces' rows w' x n count asked work v e l h tr cl = record {
-    ended = λ o. let z = cl.ended o in record { stored_is = z.stored_is; locked_is = z.locked_is; defs_is = z.defs_is; marked_is = z.marked_is; cause_is = z.cause_is; asked_is = z.asked_is };
-    traces = λ k. cl.traces k ∙ recorded depth traces traces' x (take count asked) (take count work) v l h (λ j. subst (λ i. traces' j ≡ after_recording depth (recording canon (take i asked) (take i work) v) x traces j) e (tr j)) k;
-  }
+  pub concludes_run : (depth : ℕ) (shows : ℕ → V) (locked : ℕ → Bool) (means : ℕ → Option (Def V)) (traces traces' : ℕ → List (Trace V)) (rows : ℕ → Record) (w₁ w' : View V) (x : ℕ) (running : Bool) (cs cs' : List Cell) (vs vs' : List V) (v : V)
+      → running ≡ true → w₁ ≡ seen canon shows locked means traces' rows → cs' ≡ cs → vs' ≡ vs → ((k : ℕ) → traces' k ≡ after_recording depth (recording canon cs' vs' v) x traces k)
+      → Closes w₁ w' x (canon v) (map number_of cs) → Concludes canon depth (seen canon shows locked means traces rows) w' x running cs vs v
+  concludes_run depth shows locked means traces traces' rows w₁ w' x running cs cs' vs vs' v r e c d tr cl =
+      let z = subst (λ u. Closes u w' x (canon v) (map number_of cs)) e cl in
+      record {
+        ended = let y = z.ended in record { stored_is = y.stored_is; locked_is = y.locked_is; defs_is = y.defs_is; marked_is = y.marked_is; cause_is = y.cause_is; asked_is = y.asked_is };
+        traces = λ k. z.traces k ∙ ap (map (plain_trace canon)) (tr k ∙ ap (λ u. after_recording depth (recording canon u vs' v) x traces k) c ∙ ap (λ u. after_recording depth (recording canon cs u v) x traces k) d)
+            ∙ recorded (eqb (length cs) (length vs)) (leb (length cs) ask_limit) depth traces x cs vs v k ∙ ap (λ b. cond b (after_recording depth (recording canon cs vs v) x (λ y. map (plain_trace canon) (traces y)) k) (map (plain_trace canon) (traces k))) (sym r);
+      }
+
+  -- a value without one
+  pub concludes_kept : (depth : ℕ) (w w₁ w' : View V) (x : ℕ) (running : Bool) (cs : List Cell) (vs : List V) (v : V) → running ≡ false → w₁ ≡ w → Closes w₁ w' x (canon v) (map number_of cs)
+      → Concludes canon depth w w' x running cs vs v
+  concludes_kept depth w w₁ w' x running cs vs v r e cl =
+      let z = subst (λ u. Closes u w' x (canon v) (map number_of cs)) e cl in
+      record { ended = z.ended; traces = λ k. z.traces k ∙ ap (λ b. cond b (after_recording depth (recording canon cs vs v) x w.traces k) (w.traces k)) (sym r) }

@@ -1,7 +1,7 @@
 use Rattle.interfaces.specs.Cells.{number_of}
 use Rattle.table.specs.Records.{record_in}
-use Rattle.scheduler.proofs.Seeing.{closes}
-use Rattle.scheduler.proofs.moves.end_doubt.Goals as goal
+use Rattle.moves.proofs.Seeing.{closes}
+use Rattle.moves.proofs.ends.end_doubt.Goals as goal
 
 pub returns : goal.returns
 returns g c = closes g.V.Value.canon (g.S.Store.shows c.args.parts.now.store) (g.S.Store.shows c.write.new.self) (g.S.Store.locked c.args.parts.now.store) (g.S.Store.locked c.write.new.self)

@@ -1,0 +1,32 @@
+use Rattle.std.proofs.Common.{take, sym, ap, ◌∙◌}
+use Rattle.interfaces.specs.Cells.{number_of}
+use Rattle.view.specs.View.{View}
+use Rattle.table.specs.Records.{record_in}
+use Rattle.parts.specs.declared.Parts.{Parts}
+use Rattle.parts.specs.Shown.{view_of}
+use Rattle.moves.specs.Moves.{count_after, list_after, reported}
+use Rattle.moves.proofs.Seeing.{concludes_run, concludes_kept}
+use Rattle.moves.proofs.ends.conclude.Given as given
+use Rattle.moves.proofs.ends.conclude.Goals as goal
+use Rattle.moves.proofs.ends.conclude.Goals.{then-running, else-running}
+
+abbrev view : (g : given.Over) → Parts g.row.S.Denot g.row.L.Denot g.row.R.Denot → View g.row.V.Denot
+view g e = view_of g.V.Value.canon g.S.Store.shows g.S.Store.locked g.L.Language.means g.R.Rebuilder.traces e
+
+pub returns : goal.returns
+returns g c = elim c.if-running.branch [
+  | then-running w ↦ record {
+    concludes = concludes_run g.V.Value.canon g.met.V.Value.steady g.R.Rebuilder.depth (g.S.Store.shows c.args.parts.now.store) (g.S.Store.locked c.args.parts.now.store)
+        (g.L.Language.means c.args.parts.now.language) (g.R.Rebuilder.traces c.args.parts.now.rebuilder) (g.R.Rebuilder.traces w.record.new.self) (record_in c.args.parts.now.table)
+        (view g c.if-running.parts) (view g c.end_doubt.new.parts) (number_of c.args.cell) c.args.running (take c.args.count c.args.asked) _ (take c.args.count c.args.work.now) _ c.args.value
+        w.if-running.true (ap (view g) w.parts-is) w.front.ensures w.front-then-running.ensures w.record.ensures.traces c.end_doubt.ensures;
+    count = w.ran-is ∙ w.report_run.ensures.count ∙ ap (λ b. count_after (reported b c.args.cell (record_in c.args.parts.now.table (number_of c.args.cell)).cause) c.args.ran.now c.args.report.now) (sym w.if-running.true);
+    list = w.report-is ∙ w.report_run.ensures.list ∙ ap (λ b. list_after (reported b c.args.cell (record_in c.args.parts.now.table (number_of c.args.cell)).cause) c.args.ran.now c.args.report.now) (sym w.if-running.true);
+  }
+  | else-running w ↦ record {
+    concludes = concludes_kept g.V.Value.canon g.met.V.Value.steady g.R.Rebuilder.depth (view g c.args.parts.now) (view g c.if-running.parts) (view g c.end_doubt.new.parts) (number_of c.args.cell) c.args.running
+        (take c.args.count c.args.asked) (take c.args.count c.args.work.now) c.args.value w.if-running.false (ap (view g) w.parts-is) c.end_doubt.ensures;
+    count = w.ran-is ∙ ap (λ b. count_after (reported b c.args.cell (record_in c.args.parts.now.table (number_of c.args.cell)).cause) c.args.ran.now c.args.report.now) (sym w.if-running.false);
+    list = w.report-is ∙ ap (λ b. list_after (reported b c.args.cell (record_in c.args.parts.now.table (number_of c.args.cell)).cause) c.args.ran.now c.args.report.now) (sym w.if-running.false);
+  }
+]
