@@ -1,48 +1,16 @@
 -- The walk down the asked cells finds out which cells reach `c`. Assumes nothing.
-use Rattle.std.proofs.Common.{◌≡◌, ℕ, zero, suc, ◌+◌, ◌<◌, ◌≤◌, Bool, true, false, List, [], ◌∷◌, map, length, get_or, take, drop, set, Some, None, Option as Maybe, sym, refl, ap, ◌∙◌, subst, add-one, arith, get_or-set_other, get_or-set_same}
-use native.Mathlib.Decide.{ℕ_discrete, dec_lt}
+use Rattle.std.proofs.Common.{◌≡◌, ℕ, suc, ◌-◌, ◌<◌, ◌≤◌, Bool, true, false, List, [], ◌∷◌, map, length, get_or, take, drop, set, Some, None, Option as Maybe, sym, refl, ap, ◌∙◌, subst, arith, get_or-set_other, get_or-set_same}
+use native.Mathlib.Decide.{ℕ_discrete}
+use Rattle.std.proofs.lemmas.List.{take_rest}
 use Rattle.interfaces.specs.declared.cell.Cell.{Cell}
 use Rattle.interfaces.specs.Cells.{number_of}
 use Rattle.table.specs.Marks.{Among, first, later, Leads, near, far, Shallow, shallow}
 use Rattle.table.specs.Walks.{Tells, Knows, Visits, Any, itself, below, VisitsAny}
 
--- the asked cells that are left from one place on
-pub take_from : {A : Type 0} (n i : ℕ) (xs : List A) (d : A) → i < n → i < length xs → drop i (take n xs) ≡ get_or xs i d ∷ drop (suc i) (take n xs)
-take_from n i [] d h k = absurd (omega arith)
-take_from zero i (x ∷ xs) d h k = absurd (omega arith)
-take_from (suc n) zero (x ∷ xs) d h k = refl
-take_from (suc n) (suc i) (x ∷ xs) d h k = take_from n i xs d (omega arith) (omega arith)
-
-pub take_over : {A : Type 0} (n : ℕ) (xs : List A) → drop n (take n xs) ≡ []
-take_over zero xs = refl
-take_over (suc n) [] = refl
-take_over (suc n) (x ∷ xs) = take_over n xs
-
-take_cut : {A : Type 0} (n m : ℕ) (xs : List A) → length xs ≤ n → length xs ≤ m → take n xs ≡ take m xs
-take_cut zero zero xs h k = refl
-take_cut zero (suc m) [] h k = refl
-take_cut (suc n) zero [] h k = refl
-take_cut (suc n) (suc m) [] h k = refl
-take_cut zero (suc m) (x ∷ xs) h k = absurd (omega arith)
-take_cut (suc n) zero (x ∷ xs) h k = absurd (omega arith)
-take_cut (suc n) (suc m) (x ∷ xs) h k = ap (λ z. x ∷ z) (take_cut n m xs (omega arith) (omega arith))
-
--- a count that is cut to the room takes the same cells
-pub cut_same : {A : Type 0} (n r : ℕ) (xs : List A) → length xs ≡ 8 → (n ≤ 8 → r ≡ n) → (8 ≤ n → r ≡ 8) → take r xs ≡ take n xs
-cut_same n r xs e h k = go (dec_lt n 8)
-  where
-    go : Dec (n < 8) → take r xs ≡ take n xs
-    go (yes l) = ap (λ z. take z xs) (h (omega arith))
-    go (no m) = let q = k (omega arith) in take_cut r n xs (omega arith) (omega arith)
-
-pub left_over : (n i : ℕ) (xs : List Cell) → i ≡ n → map number_of (drop i (take n xs)) ≡ []
-left_over n i xs e = ap (λ z. map number_of (drop z (take n xs))) e ∙ ap (map number_of) (take_over n xs)
-
-pub left_from : (n i : ℕ) (xs : List Cell) (d : Cell) → i < n → i < length xs
-    → map number_of (drop i (take n xs)) ≡ number_of (get_or xs i d) ∷ map number_of (drop (i + 1) (take n xs))
-left_from n i xs d h k =
-    let e : drop i (take n xs) ≡ get_or xs i d ∷ drop (i + 1) (take n xs) = rw add-one (take_from n i xs d h k) in
-    ap (map number_of) e
+-- the first of some cells, and the others
+pub first_and_rest : (xs : List Cell) (d : Cell) → 1 ≤ length xs → map number_of xs ≡ number_of (get_or xs 0 d) ∷ map number_of (take (length xs - 1) (drop 1 xs))
+first_and_rest [] d h = absurd (omega arith)
+first_and_rest (x ∷ xs) d h = ap (λ z. number_of x ∷ map number_of z) (sym (take_rest (x ∷ xs) 1))
 
 module _ (asked : ℕ → List ℕ) (c : ℕ) where
   pub any_none : (n : ℕ) {ys : List ℕ} (known : List (Maybe Bool)) → ys ≡ [] → VisitsAny asked c n ys known known false
@@ -121,9 +89,3 @@ module _ (asked : ℕ → List ℕ) (c : ℕ) where
       let u = a (λ y o. open_up e s y (subst (λ z. Among y z) q o)) k in
       let l : Tells b (Leads asked c x) = tell b (λ w. any_leads (subst (λ z. Any asked c z) q w)) (λ w. subst (λ z. Any asked c z) (sym q) (leads_any w)) u.1 in
       (noted x b known₁ h u.0 l, l)
-
-  pub visit_found_at : (n m x i : ℕ) (ys : List ℕ) (known known₁ : List (Maybe Bool)) (b : Bool) → i ≡ x → n ≡ suc m → ys ≡ asked x
-      → VisitsAny asked c m ys known known₁ b → i < length known₁ → Visits asked c n x known (set known₁ i (Some b)) b
-  visit_found_at n m x i ys known known₁ b p e q a h =
-      let h' : x < length known₁ = subst (λ z. z < length known₁) p h in
-      subst (λ z. Visits asked c n x known (set known₁ z (Some b)) b) (sym p) (visit_found n m x ys known known₁ b e q a h')

@@ -1,14 +1,21 @@
 -- What the table holds of each cell.
-use Rattle.std.specs.Prelude.{ℕ, Bool, false, List, [], map, take, Some, None, Option as Maybe, slice_index_or}
+use Rattle.std.specs.Prelude.{ℕ, Bool, false, List, [], map, Some, None, Option as Maybe, slice_index_or}
 use Rattle.std.proofs.Math.Option.{Option, none, some}
+use Rattle.std.proofs.Common.{lit≤}
+use Rattle.interfaces.specs.declared.asked.Asked.{Asked}
 use Rattle.interfaces.specs.declared.cell.Cell.{Cell}
+use Rattle.interfaces.specs.Asks.{asked_cells}
 use Rattle.interfaces.specs.Cells.{number_of}
 use Rattle.table.specs.declared.Record.{Record}
 use Rattle.table.specs.declared.Table.{Table}
 
+-- no asked cells
+abbrev pub no_asks : Asked
+no_asks = record { cells = []; len = 0; short = lit≤ tt }
+
 -- the record at a number; past the cells there is one of an input
 abbrev pub record_in : Table → ℕ → Record
-record_in t x = slice_index_or t.records x (record { defined = false; cause = None; asked = []; count = 0 })
+record_in t x = slice_index_or t.records x (record { defined = false; cause = None; asked = no_asks })
 
 -- the number of a cell, if there is one
 abbrev pub number_in : Maybe Cell → Option ℕ
@@ -23,7 +30,7 @@ abbrev pub cause_in : (ℕ → Record) → ℕ → Option ℕ
 cause_in rows x = number_in (rows x).cause
 
 abbrev pub asked_in : (ℕ → Record) → ℕ → List ℕ
-asked_in rows x = map number_of (take (rows x).count (rows x).asked)
+asked_in rows x = map number_of (asked_cells (rows x).asked)
 
 -- whether a record is of a defined cell that is not in doubt
 abbrev pub calm_by : Maybe Cell → Bool → Bool

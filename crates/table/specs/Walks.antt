@@ -31,7 +31,7 @@ VisitsAny asked c fuel ys known known' b =
 
 -- the record of a cell that has come to be in doubt
 abbrev pub doubted : Cell → Record → Record
-doubted c r = record { defined = r.defined; cause = Some c; asked = r.asked; count = r.count }
+doubted c r = record { defined = r.defined; cause = Some c; asked = r.asked }
 
 -- one cell's turn in a marking
 pub data Turns (c : Cell) (x : ℕ) (before after : ℕ → Record) (known known' : List (Maybe Bool)) : Type 0 where

@@ -5,19 +5,19 @@
 ghost use Rattle.std.specs.Prelude.{◌≡◌, length};
 ghost use Rattle.interfaces.specs.Cells.{cell_count};
 
+mod known;
 pub mod rows;
 
-use interfaces::cell::Cell;
+use interfaces::{Asked, Cell};
 
 /// What is known of one cell.
 #[derive(Clone, Copy)]
 pub struct Record {
-    pub defined: bool,
+    pub defined: bool, // the definition mark stands beside the cause: the record of a cell has both, by rule
     /// The cell whose touch put this one in doubt, or none where it is not in doubt.
     pub cause: Option<Cell>,
-    /// The cells that the last finishing asked for stand in front.
-    pub asked: [Cell; 8],
-    pub count: usize,
+    /// The cells that the last finishing asked for.
+    pub asked: Asked,
 }
 
 /// A record for each cell.

@@ -1,39 +1,22 @@
 // Reading and changing records, and the marking after a touch.
-ghost use Rattle.std.specs.Prelude.{◌≡◌, ℕ, ◌<◌, ◌≤◌, false, [], map, length, take, drop, None as Nothing};
+ghost use Rattle.std.specs.Prelude.{◌≡◌, ℕ, ◌<◌, false, [], map, None as Nothing};
 ghost use Rattle.std.proofs.Math.Option.{none};
-ghost use Rattle.interfaces.specs.Cells.{cell_count, ask_limit, number_of, but};
+ghost use Rattle.interfaces.specs.Cells.{cell_count, number_of, but};
+ghost use Rattle.interfaces.specs.Asks.{asked_cells};
 ghost use Rattle.table.specs.Records.{record_in, calm_record, marked_in, cause_in, asked_in};
 ghost use Rattle.table.specs.Marks.{Marks, Grounded};
 ghost use Rattle.table.specs.Walks.{Visits, VisitsAny, Turns};
 
+use crate::known::Known;
 use crate::{Record, Table};
-use interfaces::cell::{ASKS, CELLS, Cell};
-
-// Some cell, to fill places that are not used.
-fn any_cell() -> Cell {
-    match Cell::new(0) {
-        Some(cell) => cell,
-        None => unreachable(),
-    }
-}
-
-// A count that passes the room stands for the whole room.
-fn within_room(count: usize) -> usize
-    ensures most { result ≤ ask_limit }
-    ensures same { count ≤ ask_limit → result ≡ count }
-    ensures cut { ask_limit ≤ count → result ≡ ask_limit }
-{
-    if count < ASKS { count } else { ASKS }
-}
+use interfaces::cell::CELLS;
+use interfaces::{Asked, Cell};
 
 // Whether a record is of a defined cell that is not in doubt.
 fn is_calm(row: Record) -> bool
     ensures { result ≡ calm_record row }
 {
-    match row.cause {
-        None => row.defined,
-        Some(_) => false,
-    }
+    row.defined && row.cause.is_none()
 }
 
 impl Record {
@@ -41,13 +24,12 @@ impl Record {
     pub fn blank() -> Record
         ensures plain { result.defined ≡ false }
         ensures sure { result.cause ≡ Nothing }
-        ensures idle { result.count ≡ 0 }
+        ensures idle { asked_cells result.asked ≡ [] }
     {
         Record {
             defined: false,
             cause: None,
-            asked: [any_cell(); ASKS],
-            count: 0,
+            asked: Asked::new(&[]),
         }
     }
 }
@@ -83,67 +65,43 @@ impl Table {
     // Whether the cell `x` reaches `c` by asked cells. What is found out is remembered, so that each record is opened
     // once; a way down has no more steps than there are cells, and `fuel` counts them.
     #[cycle(any_visit)]
-    fn visit(&self, x: Cell, c: Cell, fuel: usize, known: &mut [Option<bool>]) -> bool
-        requires { length known.old ≡ cell_count }
-        ensures { Visits (asked_in (record_in self.now)) (number_of c) fuel (number_of x) known.old known.new result }
+    fn visit(&self, x: Cell, c: Cell, fuel: usize, known: &mut Known) -> bool
+        ensures { Visits (asked_in (record_in self.now)) (number_of c) fuel (number_of x) known.old.reaches known.new.reaches result }
     {
-        let place = x.number();
-        let before = known[place];
-        if let Some(answer) = before {
+        if let Some(answer) = known.get(x) {
             return answer;
         }
         if fuel == 0 {
             return false;
         }
         let row = self.get(x);
-        let count = within_room(row.count);
-        let found = self.any(row.asked, 0, count, c, fuel - 1, known);
-        known[place] = Some(found);
+        let found = self.any(row.asked.as_slice(), c, fuel - 1, known);
+        known.set(x, found);
         found
     }
 
-    // Whether one of the asked cells, from the i-th on, is `c` or reaches it.
+    // Whether one of these cells is `c` or reaches it.
     #[cycle(any_visit)]
-    fn any(
-        &self,
-        asked: [Cell; 8],
-        i: usize,
-        count: usize,
-        c: Cell,
-        fuel: usize,
-        known: &mut [Option<bool>],
-    ) -> bool
-        requires { (length known.old ≡ cell_count) × ((i ≤ count) × (count ≤ ask_limit)) }
-        ensures room { length asked ≡ ask_limit }
-        ensures visits { VisitsAny (asked_in (record_in self.now)) (number_of c) fuel (map number_of (drop i (take count asked))) known.old known.new result }
+    fn any(&self, cells: &[Cell], c: Cell, fuel: usize, known: &mut Known) -> bool
+        ensures { VisitsAny (asked_in (record_in self.now)) (number_of c) fuel (map number_of cells.now) known.old.reaches known.new.reaches result }
     {
-        if i == count {
-            return false;
+        match cells {
+            [] => false,
+            [y, rest @ ..] => {
+                *y == c || self.visit(*y, c, fuel, known) || self.any(rest, c, fuel, known)
+            }
         }
-        let y = asked[i];
-        if y.number() == c.number() {
-            return true;
-        }
-        if self.visit(y, c, fuel, known) {
-            return true;
-        }
-        self.any(asked, i + 1, count, c, fuel, known)
     }
 
     // Puts the cell `x` in doubt if it is not yet and reaches `c`.
-    fn mark_one(&mut self, x: Cell, c: Cell, known: &mut [Option<bool>])
-        requires { length known.old ≡ cell_count }
-        ensures { Turns c (number_of x) (record_in self.old) (record_in self.new) known.old known.new }
+    fn mark_one(&mut self, x: Cell, c: Cell, known: &mut Known)
+        ensures { Turns c (number_of x) (record_in self.old) (record_in self.new) known.old.reaches known.new.reaches }
     {
         let mut row = self.get(x);
-        if !is_calm(row) {
-            return;
+        if is_calm(row) && self.visit(x, c, CELLS + 1, known) {
+            row.cause = Some(c);
+            self.change(x, row);
         }
-        if !self.visit(x, c, CELLS + 1, known) {
-            return;
-        }
-        row.cause = Some(c);
-        self.change(x, row);
     }
 
     /// After a touch of a cell: every defined cell that is not in doubt and reaches it is in doubt from then on, and
@@ -151,7 +109,7 @@ impl Table {
     pub fn mark(&mut self, touched: Cell)
         ensures { Grounded (marked_in (record_in self.old)) (cause_in (record_in self.old)) (asked_in (record_in self.old)) → Marks (number_of touched) (record_in self.old) (record_in self.new) }
     {
-        let mut known: [Option<bool>; 256] = [None; CELLS];
+        let mut known = Known::new();
         for i in 0..CELLS {
             if let Some(cell) = Cell::new(i) {
                 self.mark_one(cell, touched, &mut known);

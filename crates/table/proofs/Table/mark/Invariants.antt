@@ -1,4 +1,3 @@
-use Rattle.std.proofs.Common.{◌≡◌, length}
 use Rattle.table.specs.Records.{record_in, marked_in, cause_in, asked_in}
 use Rattle.table.specs.Marks.{Grounded}
 use Rattle.table.proofs.Marking.{Sofar}
@@ -6,5 +5,5 @@ use Rattle.table.proofs.Table.mark.Given as goal
 
 abbrev pub invariant-loop-i : goal.invariant-loop-i
 invariant-loop-i l =
-    (length l.known ≡ 256) × (Grounded (marked_in (record_in l.initial.self)) (cause_in (record_in l.initial.self)) (asked_in (record_in l.initial.self))
-    → Sofar l.touched l.i (record_in l.initial.self) (record_in l.self) l.known)
+    Grounded (marked_in (record_in l.initial.self)) (cause_in (record_in l.initial.self)) (asked_in (record_in l.initial.self))
+    → Sofar l.touched l.i (record_in l.initial.self) (record_in l.self) l.known.reaches

@@ -4,7 +4,7 @@ use Rattle.table.specs.Records.{calm_record, record_in}
 use Rattle.table.specs.Walks.{doubted, hits}
 use Rattle.table.proofs.Table.mark_one.Goals as goal
 
-pub returns : goal.returns
-returns c = hits (ap calm_record (sym c.get-row.ensures.row) ∙ sym c.is_calm.ensures ∙ c.if-not-is_calm.false)
+pub returns-then-visit : goal.returns-then-visit
+returns-then-visit c = hits (ap calm_record (sym c.get-row.ensures.row) ∙ sym c.is_calm.ensures ∙ c.if-is_calm.true)
     (λ k. c.change.ensures k ∙ ap (λ r. but (number_of c.args.x) (doubted c.args.c r) (record_in c.args.self.now) k) c.get-row.ensures.row)
-    c.if-not-visit.ensures
+    c.if-visit.ensures
