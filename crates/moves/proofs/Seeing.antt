@@ -2,7 +2,9 @@
 use Rattle.std.proofs.Common.{◌≡◌, ℕ, zero, suc, Bool, true, false, cond, eqb, leb, List, [], ◌∷◌, map, length, take, None, Ok, Err, sym, refl, ap, ◌∙◌, subst}
 use mathlib.Core.Option.{Option}
 use native.Mathlib.Decide.{ℕ_discrete}
+use Rattle.interfaces.specs.declared.asked.Asked.{Asked}
 use Rattle.interfaces.specs.declared.cell.Cell.{Cell}
+use Rattle.interfaces.specs.Asks.{asked_cells}
 use Rattle.interfaces.specs.Cells.{ask_limit, number_of, but}
 use Rattle.interfaces.specs.Refusals.{no as refusal}
 use Rattle.interfaces.specs.Tasks.{Def}
@@ -52,11 +54,11 @@ written true x v f k = sym (changed_same x f k)
 written false x v f k = but_changed x v f k
 
 module _ {V : Type 0} (canon : V → V) (shows shows' : ℕ → V) (locked locked' : ℕ → Bool) (means : ℕ → Option (Def V)) (traces : ℕ → List (Trace V)) (rows rows' : ℕ → Record)
-    (x : ℕ) (v : V) (row : Record) (count : ℕ) (asked : List Cell) where
+    (x : ℕ) (v : V) (row : Record) (asked : Asked) where
   -- a write, and a record without cause
   pub closes : ((k : ℕ) → canon (shows' k) ≡ cond (locked x) (canon (shows k)) (but x v (λ j. canon (shows j)) k)) → ((k : ℕ) → locked' k ≡ locked k) → row ≡ rows x
-      → ((k : ℕ) → rows' k ≡ but x (record { defined = row.defined; cause = None; asked = asked; count = count }) rows k)
-      → Closes (seen canon shows locked means traces rows) (seen canon shows' locked' means traces rows') x v (map number_of (take count asked))
+      → ((k : ℕ) → rows' k ≡ but x (record { defined = row.defined; cause = None; asked = asked }) rows k)
+      → Closes (seen canon shows locked means traces rows) (seen canon shows' locked' means traces rows') x v (map number_of (asked_cells asked))
   closes wr lk here rs = record {
     ended = record {
       stored_is = λ k. wr k ∙ written (locked x) x v (λ j. canon (shows j)) k;
@@ -64,13 +66,13 @@ module _ {V : Type 0} (canon : V → V) (shows shows' : ℕ → V) (locked locke
       defs_is = λ k. refl;
       marked_is = λ k. ap (λ z. z.defined) (rows_are k) ∙ changed_map (λ z. z.defined) x new rows k ∙ ap (λ z. changed x z.defined (λ y. (rows y).defined) k) here ∙ changed_same x (λ y. (rows y).defined) k;
       cause_is = λ k. ap (λ z. number_in z.cause) (rows_are k) ∙ changed_map (λ z. number_in z.cause) x new rows k;
-      asked_is = λ k. ap (λ z. map number_of (take z.count z.asked)) (rows_are k) ∙ changed_map (λ z. map number_of (take z.count z.asked)) x new rows k;
+      asked_is = λ k. ap (λ z. map number_of (asked_cells z.asked)) (rows_are k) ∙ changed_map (λ z. map number_of (asked_cells z.asked)) x new rows k;
     };
     traces = λ k. refl;
   }
     where
       new : Record
-      new = record { defined = row.defined; cause = None; asked = asked; count = count }
+      new = record { defined = row.defined; cause = None; asked = asked }
 
       rows_are : (k : ℕ) → rows' k ≡ changed x new rows k
       rows_are k = rs k ∙ but_changed x new rows k

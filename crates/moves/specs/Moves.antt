@@ -1,15 +1,18 @@
 -- What the moves of a query come to.
-use Rattle.std.specs.Prelude.{◌≡◌, ℕ, ◌+◌, ◌<◌, ◌≤◌, Bool, true, false, cond, ◌⊎◌, List, map, length, Some, None, Ok, Err, Option as Maybe, Result, nat_lt, slice_set}
+use Rattle.std.specs.Prelude.{◌≡◌, ℕ, ◌+◌, ◌<◌, ◌≤◌, Bool, true, false, cond, List, map, length, Some, None, Ok, Err, Option as Maybe, Result, nat_lt, slice_set}
 use Rattle.interfaces.specs.declared.cell.Cell.{Cell}
 use Rattle.interfaces.specs.Cells.{ask_limit, number_of}
 use Rattle.interfaces.specs.Tasks.{Act, asks, gives, faults}
 use Rattle.interfaces.specs.Traces.{Planned, runs, keeps, next, recording, after_recording}
 use Rattle.view.specs.View.{View}
 use Rattle.midway.specs.Midway.{Ended}
+use Rattle.moves.specs.declared.asks.AskFault.{AskFault}
+use Rattle.moves.specs.declared.asks.AskFault.TheVariants.{Circle, NinthAsk}
 use Rattle.moves.specs.declared.answer.Fault.{Fault}
 use Rattle.moves.specs.declared.answer.Layer.TheVariants.{Engine, Language}
 use Rattle.moves.specs.declared.answer.Located.{Located}
 use Rattle.moves.specs.declared.answer.Ran.{Ran}
+use Rattle.moves.specs.declared.report.Report.{Report}
 use Rattle.moves.specs.declared.turns.Turn.{Turn}
 use Rattle.moves.specs.declared.turns.Turn.TheVariants.{Done, Begin, Ask}
 
@@ -48,17 +51,27 @@ abbrev pub located_means : {V : Type 0} → (V → V) → Result (Turn V) Locate
 located_means canon (Ok t) = turn_means canon (Ok t)
 located_means canon (Err l) = fails (record { number = l.fault.number; mark = l.fault.mark; cell = l.cell; layer = Language; chain = l.chain })
 
--- what an ask faults with after `count` others, for a cell that is in doubt and on the path or not: the ninth with 17,
--- else one that closes a circle with 16
-abbrev pub AskFaults : (count : ℕ) → (doubted on : Type 0) → Maybe ℕ → Type 0
-AskFaults count doubted on None = (count < ask_limit) × (doubted → on → ⊥)
-AskFaults count doubted on (Some n) = ((n ≡ 17) × (ask_limit ≤ count)) ⊎ ((n ≡ 16) × (count < ask_limit) × doubted × on)
+-- the numbers of the engine's own faults
+abbrev pub fault_number : AskFault → ℕ
+fault_number Circle = 16
+fault_number NinthAsk = 17
+
+-- such a fault of `cell`, which asked for the cell of number `wanted`
+abbrev pub ask_fault : AskFault → Cell → (wanted chain : ℕ) → Fault
+ask_fault a cell wanted chain = record { number = fault_number a; mark = wanted; cell = cell; layer = Engine; chain = chain }
+
+-- what an ask comes to after `count` others, for a cell that is in doubt and on the path or not: the ninth faults, else
+-- one that closes a circle
+abbrev pub AskFaults : (count : ℕ) → (doubted on : Type 0) → Result (Unit {0}) AskFault → Type 0
+AskFaults count doubted on (Ok _) = (count < ask_limit) × (doubted → on → ⊥)
+AskFaults count doubted on (Err NinthAsk) = ask_limit ≤ count
+AskFaults count doubted on (Err Circle) = (count < ask_limit) × doubted × on
 
 -- so an ask of `cell` for the cell of number `wanted` is let through, or faults at it with the wanted cell as mark
 abbrev pub AskChecked : Cell → (wanted count chain : ℕ) → (doubted on : Type 0) → Result (Unit {0}) Fault → Type 0
-AskChecked cell wanted count chain doubted on (Ok _) = AskFaults count doubted on None
+AskChecked cell wanted count chain doubted on (Ok _) = AskFaults count doubted on (Ok tt)
 AskChecked cell wanted count chain doubted on (Err f) =
-    AskFaults count doubted on (Some f.number) × (f ≡ record { number = f.number; mark = wanted; cell = cell; layer = Engine; chain = chain })
+    (a : AskFault) × AskFaults count doubted on (Err a) × (f ≡ ask_fault a cell wanted chain)
 
 -- the report after one more run: it stands at the end, if there is room
 abbrev pub count_after : Maybe Ran → (ran : ℕ) → List Ran → ℕ
@@ -68,6 +81,12 @@ count_after (Some r) ran list = cond (nat_lt ran (length list)) (ran + 1) ran
 abbrev pub list_after : Maybe Ran → (ran : ℕ) → List Ran → List Ran
 list_after None ran list = list
 list_after (Some r) ran list = slice_set list ran r
+
+-- so the report is after one more run, on the same lent list
+pub record Joins (run : Maybe Ran) (before after : Report) : Type 0 where
+  pub count : after.ran ≡ count_after run before.ran before.list.now
+  pub list : after.list.now ≡ list_after run before.ran before.list.now
+  pub lent : after.list.ghost_name ≡ before.list.ghost_name
 
 -- the run to report of a cell with this cause
 abbrev pub run_of : Cell → Maybe Cell → Maybe Ran

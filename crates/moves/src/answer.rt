@@ -14,7 +14,7 @@ pub enum Layer {
 /// A fault: its number and mark, the cell that it came up at, and how many cells were being worked out.
 #[derive(Clone, Copy)]
 pub struct Fault {
-    pub number: u8,
+    pub number: u8, // not an enum: a language chooses the numbers of its faults
     pub mark: u16,
     pub cell: Cell,
     pub layer: Layer,

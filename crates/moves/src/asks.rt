@@ -1,21 +1,52 @@
 // Reading a cell, and what an ask for one may fault with.
-ghost use Rattle.std.specs.Prelude.{◌≡◌, false, T, map, length, take, ◌≢◌};
+ghost use Rattle.std.specs.Prelude.{◌≡◌, false, T, map, length, ◌≢◌};
 ghost use Rattle.std.proofs.Math.Option.{none};
+ghost use Rattle.interfaces.specs.Asks.{asked_cells};
 ghost use Rattle.interfaces.specs.Cells.{number_of};
 ghost use Rattle.past.specs.Afresh.{In};
 ghost use Rattle.table.specs.Records.{record_in, cause_in};
-ghost use Rattle.moves.specs.Moves.{AskFaults, AskChecked};
+ghost use Rattle.moves.specs.Moves.{fault_number, ask_fault, AskFaults, AskChecked};
+ghost use Rattle.moves.specs.Paths.{path_cells};
 
 use crate::answer::{Fault, Layer};
-use crate::lists::{front, holds};
+use crate::path::Path;
 use interfaces::cell::ASKS;
-use interfaces::{Cell, Store, Value};
+use interfaces::{Asked, Cell, Store, Value};
 use table::Table;
 
-// The engine's own faults.
-const CIRCLE: u8 = 16;
+/// What is wrong with an ask.
+#[derive(Clone, Copy, PartialEq, Eq)]
+pub enum AskFault {
+    /// It is for a cell in doubt that is being worked out.
+    Circle,
+    /// It is one more than a task may make.
+    NinthAsk,
+}
 
-const NINTH_ASK: u8 = 17;
+impl AskFault {
+    /// The number of the engine's fault.
+    pub fn number(self) -> u8
+        ensures { result ≡ fault_number self }
+    {
+        match self {
+            AskFault::Circle => 16,
+            AskFault::NinthAsk => 17,
+        }
+    }
+
+    /// The fault of a cell that asked for another, with a chain of this length.
+    pub fn locate(self, cell: Cell, wanted: Cell, chain: usize) -> Fault
+        ensures { result ≡ ask_fault self cell (number_of wanted) chain }
+    {
+        Fault {
+            number: self.number(),
+            mark: wanted.number() as u16,
+            cell,
+            layer: Layer::Engine,
+            chain,
+        }
+    }
+}
 
 /// The stored value of a cell.
 pub fn read_stored<V: Value, S: Store<V>>(store: &S, cell: Cell) -> V
@@ -29,60 +60,40 @@ pub fn in_doubt(table: &Table, cell: Cell) -> bool
     ensures yes { T result → cause_in (record_in table.now) (number_of cell) ≢ none }
     ensures no { result ≡ false → cause_in (record_in table.now) (number_of cell) ≡ none }
 {
-    let row = table.get(cell);
-    match row.cause {
-        Some(_) => true,
-        None => false,
-    }
+    table.get(cell).cause.is_some()
 }
 
 // Whether asking for the cell closes a circle.
-fn closes_circle(table: &Table, cell: Cell, path: &[Cell]) -> bool
-    ensures yes { T result → (cause_in (record_in table.now) (number_of cell) ≢ none) × In (number_of cell) (map number_of path.now) }
-    ensures no { result ≡ false → (cause_in (record_in table.now) (number_of cell) ≢ none) → In (number_of cell) (map number_of path.now) → ⊥ }
+fn closes_circle(table: &Table, cell: Cell, path: &Path) -> bool
+    ensures yes { T result → (cause_in (record_in table.now) (number_of cell) ≢ none) × In (number_of cell) (map number_of (path_cells path.now)) }
+    ensures no { result ≡ false → (cause_in (record_in table.now) (number_of cell) ≢ none) → In (number_of cell) (map number_of (path_cells path.now)) → ⊥ }
 {
-    if in_doubt(table, cell) {
-        holds(path, cell)
-    } else {
-        false
-    }
+    in_doubt(table, cell) && path.holds(cell)
 }
 
-// What an ask for the cell faults with, after `count` others, on this path.
-fn ask_fault(table: &Table, cell: Cell, path: &[Cell], count: usize) -> Option<u8>
-    ensures { AskFaults count (cause_in (record_in table.now) (number_of cell) ≢ none) (In (number_of cell) (map number_of path.now)) result }
+// Lets a cell be asked for, on this path and after these other asks.
+fn let_ask(table: &Table, cell: Cell, path: &Path, asked: &Asked) -> Result<(), AskFault>
+    ensures { AskFaults (length (asked_cells asked.now)) (cause_in (record_in table.now) (number_of cell) ≢ none) (In (number_of cell) (map number_of (path_cells path.now))) result }
 {
-    if count >= ASKS {
-        return Some(NINTH_ASK);
+    if asked.len() >= ASKS {
+        return Err(AskFault::NinthAsk);
     }
     if closes_circle(table, cell, path) {
-        return Some(CIRCLE);
+        return Err(AskFault::Circle);
     }
-    None
+    Ok(())
 }
 
-/// Lets the cell ask for another after `count` asks, or faults. The path has the cells that are being worked out, in
-/// its first `depth` places.
+/// Lets the cell, which is last on the path and has asked for these others, ask for another, or faults.
 pub fn check_ask(
     table: &Table,
     cell: Cell,
     wanted: Cell,
-    path: &[Cell],
-    depth: usize,
-    count: usize,
+    path: &Path,
+    asked: &Asked,
 ) -> Result<(), Fault>
-    ensures { AskChecked cell (number_of wanted) count (length (take depth path.now))
-        (cause_in (record_in table.now) (number_of wanted) ≢ none) (In (number_of wanted) (map number_of (take depth path.now))) result }
+    ensures { AskChecked cell (number_of wanted) (length (asked_cells asked.now)) (length (path_cells path.now))
+        (cause_in (record_in table.now) (number_of wanted) ≢ none) (In (number_of wanted) (map number_of (path_cells path.now))) result }
 {
-    let path = front(path, depth);
-    match ask_fault(table, wanted, path, count) {
-        Some(number) => Err(Fault {
-            number,
-            mark: wanted.number() as u16,
-            cell,
-            layer: Layer::Engine,
-            chain: path.len(),
-        }),
-        None => Ok(()),
-    }
+    let_ask(table, wanted, path, asked).map_err(|fault| fault.locate(cell, wanted, path.len()))
 }

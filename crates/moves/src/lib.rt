@@ -6,9 +6,14 @@ pub mod answer;
 pub mod asks;
 pub mod ends;
 pub mod lists;
+pub mod path;
+pub mod paths;
+pub mod report;
 pub mod turns;
 
 pub use answer::{Fault, Layer, Ran};
-pub use asks::{check_ask, in_doubt, read_stored};
+pub use asks::{AskFault, check_ask, in_doubt, read_stored};
 pub use ends::conclude;
+pub use path::Path;
+pub use report::Report;
 pub use turns::{Turn, next_turn};

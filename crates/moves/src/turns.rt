@@ -1,5 +1,6 @@
 // What a cell in doubt does next.
-ghost use Rattle.std.specs.Prelude.{◌≡◌, map, take};
+ghost use Rattle.std.specs.Prelude.{◌≡◌, map, length, take};
+ghost use Rattle.interfaces.specs.Asks.{asked_cells};
 ghost use Rattle.interfaces.specs.Cells.{number_of};
 ghost use Rattle.interfaces.specs.Tasks.{step_of};
 ghost use Rattle.interfaces.specs.Traces.{plan_for};
@@ -7,7 +8,7 @@ ghost use Rattle.moves.specs.Moves.{step_move, move_of, turn_means, located_mean
 
 use crate::answer::{Fault, Located};
 use crate::lists::front;
-use interfaces::{Cell, Language, Plan, Rebuilder, Step, Store, Value};
+use interfaces::{Asked, Cell, Language, Plan, Rebuilder, Step, Store, Value};
 use parts::Parts;
 
 /// What a cell in doubt does next.
@@ -36,29 +37,27 @@ fn run_step<V: Value, L: Language<V>>(
     }
 }
 
-/// The next turn of a cell in doubt after `count` asked cells and their answers, which stand in front of the lists: by
-/// its step if it runs, else by the plan.
+/// The next turn of a cell in doubt after these asked cells and their answers, which stand in front of the working
+/// list: by its step if it runs, else by the plan.
 pub fn next_turn<V: Value, S: Store<V>, L: Language<V>, R: Rebuilder<V>>(
     parts: &Parts<S, L, R>,
     cell: Cell,
     chain: usize,
-    asked: &[Cell],
+    asked: &Asked,
     work: &[V],
-    count: usize,
     running: bool,
 ) -> Result<Turn<V>, Fault>
     ensures { turn_means V.Value.canon result ≡ move_of cell chain running
-        (plan_for V.Value.canon V.Value.alike (R.Rebuilder.traces parts.now.rebuilder (number_of cell)) (take count asked.now) (take count work.now))
-        (step_of V.Value.blank (L.Language.means parts.now.language (number_of cell)) (map V.Value.canon (take count work.now))) }
+        (plan_for V.Value.canon V.Value.alike (R.Rebuilder.traces parts.now.rebuilder (number_of cell)) (asked_cells asked.now) (take (length (asked_cells asked.now)) work.now))
+        (step_of V.Value.blank (L.Language.means parts.now.language (number_of cell)) (map V.Value.canon (take (length (asked_cells asked.now)) work.now))) }
 {
-    let answers = front(work, count);
+    let answers = front(work, asked.len());
     if running {
-        let turn = run_step(&parts.language, cell, chain, answers)?;
-        return Ok(turn);
+        return Ok(run_step(&parts.language, cell, chain, answers)?);
     }
-    match parts.rebuilder.plan(cell, front(asked, count), answers) {
+    match parts.rebuilder.plan(cell, asked.as_slice(), answers) {
         Plan::Keep(value) => Ok(Turn::Done(value)),
-        Plan::Next(asked) => Ok(Turn::Ask(asked)),
+        Plan::Next(wanted) => Ok(Turn::Ask(wanted)),
         Plan::Run => Ok(Turn::Begin),
     }
 }

@@ -1,5 +1,5 @@
 -- Each way through the scheduler, by what the workbook shows before and after.
-use Rattle.std.proofs.Common.{◌≡◌, ℕ, ◌<◌, ◌≤◌, Bool, true, false, cond, List, [], ◌∷◌, ◌++◌, map, length, Some, None, Option as Maybe, sym, refl, ap, ◌∙◌, subst, inl, inr, append_assoc, arith, length-append}
+use Rattle.std.proofs.Common.{◌≡◌, ℕ, ◌<◌, ◌≤◌, Bool, true, false, cond, List, [], ◌∷◌, ◌++◌, map, length, Some, None, Err, Option as Maybe, sym, refl, ap, ◌∙◌, subst, inl, inr, append_assoc, arith, length-append}
 use mathlib.Core.Option.{Option, none, some}
 use Rattle.interfaces.specs.declared.cell.Cell.{Cell}
 use Rattle.interfaces.specs.Cells.{cell_count, ask_limit, number_of}
@@ -16,7 +16,9 @@ use Rattle.midway.proofs.Midway as midway
 use Rattle.midway.proofs.Short.{defined_open, mid_short, path_short}
 use Rattle.table.specs.Records.{number_in}
 use Rattle.moves.specs.declared.answer.Ran.{Ran}
-use Rattle.moves.specs.Moves.{AskFaults, Concludes, count_after, list_after, reported}
+use Rattle.moves.specs.declared.asks.AskFault.{AskFault}
+use Rattle.moves.specs.declared.asks.AskFault.TheVariants.{Circle, NinthAsk}
+use Rattle.moves.specs.Moves.{fault_number, AskFaults, Concludes, count_after, list_after, reported}
 use Rattle.scheduler.specs.Outcomes.{Listed}
 use Rattle.scheduler.specs.Settling.{Settles, Follows}
 use Rattle.scheduler.proofs.Turning.{Wants, Ends, recorded}
@@ -69,10 +71,10 @@ module _ {V : Type 0} (blank : V) (depth : ℕ) (same : (v w : V) → Dec (v ≡
         (f.0, listed_on r f.1 ls)
 
     -- an ask that faults
-    pub ask_fails : (a count n ran : ℕ) (list : List Ran) → count ≡ length cs → Wants (w.traces x) step pairs running a → AskFaults count (w.cause a ≡ none → ⊥) (In a path) (Some n)
-        → Follows blank depth w w path x pairs running ran list ran list (fault n a x engine path)
-    ask_fails a count n ran list ce u (inl (e, h)) = subst (λ z. Follows blank depth w w path x pairs running ran list ran list (fault z a x engine path)) (sym e) (ninth a ran list u (omega (arith, ce, h)))
-    ask_fails a count n ran list ce u (inr (e, h, c, o)) = subst (λ z. Follows blank depth w w path x pairs running ran list ran list (fault z a x engine path)) (sym e) (circle a ran list u (omega (arith, ce, h)) c o)
+    pub ask_fails : (a : ℕ) (b : AskFault) (ran : ℕ) (list : List Ran) → Wants (w.traces x) step pairs running a → AskFaults (length cs) (w.cause a ≡ none → ⊥) (In a path) (Err b)
+        → Follows blank depth w w path x pairs running ran list ran list (fault (fault_number b) a x engine path)
+    ask_fails a NinthAsk ran list u h = ninth a ran list u h
+    ask_fails a Circle ran list u (h, c, o) = circle a ran list u h c o
 
     -- a run begins anew
     pub begun : (w' : View V) (ran : ℕ) (list : List Ran) (ran' : ℕ) (list' : List Ran) (o : Outcome V) → Plans (w.traces x) pairs runs

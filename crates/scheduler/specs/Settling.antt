@@ -1,5 +1,6 @@
 -- Bringing a cell up to date, in the midst of any query.
-use Rattle.std.specs.Prelude.{ℕ, Bool, List, ◌++◌}
+use Rattle.std.specs.Prelude.{◌≡◌, ℕ, Bool, List, ◌++◌, length, Ok, Err, Result}
+use Rattle.interfaces.specs.declared.cell.Cell.{Cell}
 use Rattle.interfaces.specs.Tasks.{Def, Verdict}
 use Rattle.interfaces.specs.Traces.{Pair}
 use Rattle.past.specs.Afresh.{Log, Outcome}
@@ -7,8 +8,14 @@ use Rattle.past.specs.Past.{Past, Run}
 use Rattle.past.specs.Law.{Lawful}
 use Rattle.view.specs.View.{View}
 use Rattle.midway.specs.Midway.{Mid, Ready, Followed, Open, Brought}
+use Rattle.moves.specs.declared.answer.Fault.{Fault}
 use Rattle.moves.specs.declared.answer.Ran.{Ran}
 use Rattle.scheduler.specs.Outcomes.{Listed}
+
+-- a path is as it was, or has the chain of a fault
+abbrev pub Leaves : {V : Type 0} → List Cell → List Cell → Result V Fault → Type 0
+Leaves before after (Ok v) = after ≡ before
+Leaves before after (Err f) = f.chain ≡ length after
 
 -- bringing the cell `a` up to date on the path
 abbrev pub Settles : {V : Type 0} → V → ℕ → View V → View V → List ℕ → ℕ → (ran : ℕ) (list : List Ran) (ran' : ℕ) (list' : List Ran) → Outcome V → Type 0
