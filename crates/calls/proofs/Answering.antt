@@ -1,9 +1,10 @@
 -- The answers of edits, definitions and clearings, one lemma for each way through a call.
-use Rattle.std.proofs.Common.{◌≡◌, ℕ, ◌<◌, Bool, true, false, List, [], map, take, Ok, Err, Result, sym, refl, ap, ◌∙◌, subst}
+use Rattle.std.proofs.Common.{◌≡◌, ℕ, ◌<◌, Bool, true, false, List, [], map, Ok, Err, Result, sym, refl, ap, ◌∙◌, subst}
 use mathlib.Core.Path.{fun_ext}
 use mathlib.Core.Option.{Option, none, some}
 use native.Mathlib.Decide.{ℕ_discrete}
 use Rattle.std.proofs.lemmas.Bool.{both_ways}
+use Rattle.interfaces.specs.Asks.{asked_cells}
 use Rattle.interfaces.specs.Cells.{cell_count, number_of, but}
 use Rattle.interfaces.specs.Refusals.{Said, no as refusedWith}
 use Rattle.interfaces.specs.Tasks.{Def, Verdict, placing}
@@ -101,9 +102,9 @@ module _ {M : Type 0} (stored stored' : ℕ → M) (locked locked' : ℕ → Boo
     marks_now b e x (yes q) = ap (λ r. r.defined) (ap rows₂ q ∙ own) ∙ e ∙ sym (but_here c b (marked_in rows) x q)
     marks_now b e x (no k) = ap (λ r. r.defined) (other x k) ∙ m.same_marks x ∙ sym (but_away c b (marked_in rows) x k)
 
-    asked_now : row.count ≡ 0 → (x : ℕ) → Dec (x ≡ c) → asked_in rows₂ x ≡ but c [] (asked_in rows) x
-    asked_now e x (yes q) = ap (λ r. map number_of (take r.count r.asked)) (ap rows₂ q ∙ own) ∙ ap (λ z. map number_of (take z row.asked)) e ∙ sym (but_here c [] (asked_in rows) x q)
-    asked_now e x (no k) = ap (λ r. map number_of (take r.count r.asked)) (other x k) ∙ m.same_asked x ∙ sym (but_away c [] (asked_in rows) x k)
+    asked_now : asked_cells row.asked ≡ [] → (x : ℕ) → Dec (x ≡ c) → asked_in rows₂ x ≡ but c [] (asked_in rows) x
+    asked_now e x (yes q) = ap (λ r. map number_of (asked_cells r.asked)) (ap rows₂ q ∙ own) ∙ ap (map number_of) e ∙ sym (but_here c [] (asked_in rows) x q)
+    asked_now e x (no k) = ap (λ r. map number_of (asked_cells r.asked)) (other x k) ∙ m.same_asked x ∙ sym (but_away c [] (asked_in rows) x k)
 
     doubts_now : (x : ℕ) → ¬ (x ≡ c) → Doubts c (marked_in rows) (cause_in rows) (cause_in rows₂) (asked_in rows) x
     doubts_now x k = go (m.doubts x)
@@ -112,7 +113,7 @@ module _ {M : Type 0} (stored stored' : ℕ → M) (locked locked' : ℕ → Boo
         go (falls a b l e) = falls a b l (ap (λ r. number_in r.cause) (other x k) ∙ e)
         go (stays a e) = stays a (ap (λ r. number_in r.cause) (other x k) ∙ e)
 
-    pub renewed_by : (d : Option (Def M)) (why : Option ℕ) → row.defined ≡ is_defined d → number_in row.cause ≡ why → row.count ≡ 0
+    pub renewed_by : (d : Option (Def M)) (why : Option ℕ) → row.defined ≡ is_defined d → number_in row.cause ≡ why → asked_cells row.asked ≡ []
         → ((x : ℕ) → locked' x ≡ locked x) → ((x : ℕ) → defs'' x ≡ but c d defs' x) → ((x : ℕ) → traces' x ≡ but c [] traces x)
         → Renewed c d why (view_by stored locked defs' traces rows) (view_by stored' locked' defs'' traces' rows₂)
     renewed_by d why e f z l dd t = record {

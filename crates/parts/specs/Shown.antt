@@ -1,6 +1,10 @@
 -- What the parts of a workbook show together, by their meanings.
 use Rattle.std.specs.Prelude.{Bool, List, map, ℕ}
 use Rattle.std.proofs.Math.Option.{Option}
+use Rattle.interfaces.specs.declared.value.Value.{Ghosts as ValueMeaning}
+use Rattle.interfaces.specs.declared.store.Store.{Ghosts as StoreMeaning}
+use Rattle.interfaces.specs.declared.language.Language.{Ghosts as LanguageMeaning}
+use Rattle.interfaces.specs.declared.rebuilder.Rebuilder.{Ghosts as RebuilderMeaning}
 use Rattle.interfaces.specs.Tasks.{Def}
 use Rattle.interfaces.specs.Traces.{Trace}
 use Rattle.view.specs.View.{View}
@@ -21,3 +25,8 @@ view_of canon shows locked means traces parts = record {
   cause = cause_in (record_in parts.table);
   asked = asked_in (record_in parts.table);
 }
+
+-- the same, by the members of the four traits, each trait's as one: at bounds `V: Value` and so on a clause writes
+-- `shown V.Value S.Store L.Language R.Rebuilder parts`
+abbrev pub shown : {V S L R : Type 0} → ValueMeaning V → StoreMeaning S V → LanguageMeaning L V → RebuilderMeaning R V → Parts S L R → View V
+shown v s l r parts = view_of v.canon s.shows s.locked l.means r.traces parts

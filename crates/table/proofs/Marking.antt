@@ -1,10 +1,11 @@
 -- The turns of all cells make a marking. Assumes nothing.
-use Rattle.std.proofs.Common.{◌≡◌, ℕ, zero, suc, ◌+◌, ◌<◌, ◌≤◌, Bool, true, false, List, [], ◌∷◌, length, get_or, set, replicate, Some, None, Option as Maybe, sym, refl, ap, ◌∙◌, subst, arith, get_or-set_other, get_or-set_same}
+use Rattle.std.proofs.Common.{◌≡◌, ℕ, zero, suc, ◌+◌, ◌<◌, ◌≤◌, Bool, true, false, List, length, get_or, replicate, Some, None, Option as Maybe, sym, refl, ap, ◌∙◌, subst, arith}
 use mathlib.Core.Path.{fun_ext}
 use mathlib.Core.Option.{none}
 use native.Mathlib.Decide.{ℕ_discrete, dec_lt}
 use Rattle.std.specs.Option.{option_map}
 use Rattle.std.proofs.lemmas.Bool.{eq-eqb, ne_eqb, lt-ltb}
+use Rattle.std.proofs.lemmas.List.{get_or_past}
 use Rattle.interfaces.specs.declared.cell.Cell.{Cell}
 use Rattle.interfaces.specs.Cells.{cell_count, cell_numbered, number_of, but}
 use Rattle.interfaces.proofs.Tables.{everywhere}
@@ -19,32 +20,19 @@ but_here c a f k e = rw (eq-eqb k c e) refl
 pub but_away : {A : Type 0} (c : ℕ) (a : A) (f : ℕ → A) (k : ℕ) → ¬ (k ≡ c) → but c a f k ≡ f k
 but_away c a f k n = rw (ne_eqb k c n) refl
 
--- one element of a list is changed
-pub get_set : {A : Type 0} (xs : List A) (x c : ℕ) (y d : A) (k : ℕ) → x ≡ c → x < length xs → get_or (set xs x y) k d ≡ but c y (λ j. get_or xs j d) k
-get_set xs x c y d k q h = go (ℕ_discrete k x)
-  where
-    go : Dec (k ≡ x) → get_or (set xs x y) k d ≡ but c y (λ j. get_or xs j d) k
-    go (yes e) = ap (λ z. get_or (set xs x y) z d) e ∙ get_or-set_same xs x y d h ∙ sym (but_here c y (λ j. get_or xs j d) k (e ∙ q))
-    go (no n) = get_or-set_other xs x k y d n ∙ sym (but_away c y (λ j. get_or xs j d) k (λ e. n (e ∙ sym q)))
-
 -- what holds of the element and of the default holds at every place of a list of one element
 pub everywhere_so : {A : Type 0} (P : A → Type 0) (n k : ℕ) (a d : A) → P a → P d → P (get_or (replicate n a) k d)
 everywhere_so P zero k a d h h' = h'
 everywhere_so P (suc n) zero a d h h' = h
 everywhere_so P (suc n) (suc k) a d h h' = everywhere_so P n k a d h h'
 
-past_end : {A : Type 0} (xs : List A) (k : ℕ) (d : A) → length xs ≤ k → get_or xs k d ≡ d
-past_end [] k d h = refl
-past_end (x ∷ xs) zero d h = absurd (omega arith)
-past_end (x ∷ xs) (suc k) d h = past_end xs k d (omega arith)
-
 calm_true : (o : Maybe Cell) (b : Bool) → calm_by o b ≡ true → (b ≡ true) × (number_in o ≡ none)
 calm_true None b e = (e, refl)
-calm_true (Some c) b e = let z : ◌≡◌ {A = ℕ} 0 1 = cc in absurd (omega arith)
+calm_true (Some c) b e = cc
 
 calm_false : (o : Maybe Cell) (b : Bool) → calm_by o b ≡ false → b ≡ true → number_in o ≡ none → ⊥
-calm_false None b e h n = let z : ◌≡◌ {A = ℕ} 0 1 = cc in omega arith
-calm_false (Some c) b e h n = let z : ◌≡◌ {A = ℕ} 0 1 = cc in omega arith
+calm_false None b e h n = cc
+calm_false (Some c) b e h n = cc
 
 -- how far a marking has come: the cells below `i` have had their turn
 pub record Sofar (c : Cell) (i : ℕ) (before after : ℕ → Record) (known : List (Maybe Bool)) : Type 0 where
@@ -55,7 +43,7 @@ pub record Sofar (c : Cell) (i : ℕ) (before after : ℕ → Record) (known : L
   pub same_asked : (k : ℕ) → asked_in after k ≡ asked_in before k
 
 pub knows_none : (asked : ℕ → List ℕ) (c n : ℕ) → Knows asked c (replicate n None)
-knows_none asked c n k b e = let q : get_or {A = Maybe Bool} (replicate n None) k None ≡ None = everywhere n k None in let z : ◌≡◌ {A = ℕ} 0 1 = cc in absurd (omega arith)
+knows_none asked c n k b e = let q : get_or {A = Maybe Bool} (replicate n None) k None ≡ None = everywhere n k None in cc
 
 pub begins : (c : Cell) (before : ℕ → Record) (n : ℕ) → Sofar c 0 before before (replicate n None)
 begins c before n = record { knows = knows_none (asked_in before) (number_of c) n; done = λ k h. absurd (omega arith); todo = λ k h. refl; same_marks = λ k. refl; same_asked = λ k. refl }
@@ -125,7 +113,7 @@ all_turned c i rows d after known h f s = record { same_marks = s.same_marks; sa
   where
     go : (k : ℕ) → Dec (k < i) → Doubts (number_of c) (marked_in (λ k. get_or rows k d)) (cause_in (λ k. get_or rows k d)) (cause_in after) (asked_in (λ k. get_or rows k d)) k
     go k (yes l) = s.done k l
-    go k (no n) = stays (λ m _ _. let q : get_or rows k d ≡ d = past_end rows k d (omega arith) in let m' : d.defined ≡ true = ap (λ r. r.defined) (sym q) ∙ m in let z : ◌≡◌ {A = ℕ} 0 1 = cc in omega arith)
+    go k (no n) = stays (λ m _ _. let q : get_or rows k d ≡ d = get_or_past rows k d (omega arith) in let m' : d.defined ≡ true = ap (λ r. r.defined) (sym q) ∙ m in cc)
         (ap (λ r. number_in r.cause) (s.todo k (omega arith)))
 
 -- the cell that was made of a number has that number
@@ -133,5 +121,5 @@ pub made : (o : Maybe Cell) (c : Cell) (n : ℕ) → o ≡ Some c → option_map
 made o c n e m h = let q : cell_numbered n ≡ Some n = rw (lt-ltb n cell_count h) refl in let k : option_map number_of o ≡ Some (number_of c) = ap (option_map number_of) e in cc
 
 pub not_made : (o : Maybe Cell) (n : ℕ) → option_map number_of o ≡ cell_numbered n → n < cell_count → ((c : Cell) → ¬ (o ≡ Some c)) → ⊥
-not_made None n m h f = let q : cell_numbered n ≡ Some n = rw (lt-ltb n cell_count h) refl in let z : ◌≡◌ {A = ℕ} 0 1 = cc in omega arith
+not_made None n m h f = let q : cell_numbered n ≡ Some n = rw (lt-ltb n cell_count h) refl in cc
 not_made (Some c) n m h f = f c refl
