@@ -3,7 +3,7 @@ ghost use Rattle.std.specs.Prelude.{◌≡◌, map, length, take};
 ghost use Rattle.interfaces.specs.Asks.{asked_cells};
 ghost use Rattle.interfaces.specs.Cells.{number_of};
 ghost use Rattle.table.specs.Records.{record_in};
-ghost use Rattle.parts.specs.Shown.{view_of};
+ghost use Rattle.parts.specs.Shown.{shown};
 ghost use Rattle.moves.specs.Moves.{run_of, reported, Closes, Concludes, Joins};
 
 use crate::answer::Ran;
@@ -21,8 +21,8 @@ pub fn end_doubt<V: Value, S: Store<V>, L: Language<V>, R: Rebuilder<V>>(
     asked: Asked,
 )
     ensures { Closes
-        (view_of V.Value.canon S.Store.shows S.Store.locked L.Language.means R.Rebuilder.traces parts.old)
-        (view_of V.Value.canon S.Store.shows S.Store.locked L.Language.means R.Rebuilder.traces parts.new)
+        (shown V.Value S.Store L.Language R.Rebuilder parts.old)
+        (shown V.Value S.Store L.Language R.Rebuilder parts.new)
         (number_of cell) (V.Value.canon value) (map number_of (asked_cells asked)) }
 {
     let row = parts.table.get(cell);
@@ -58,8 +58,8 @@ pub fn conclude<V: Value, S: Store<V>, L: Language<V>, R: Rebuilder<V>>(
     work: &[V],
 )
     ensures concludes { Concludes V.Value.canon R.Rebuilder.depth
-        (view_of V.Value.canon S.Store.shows S.Store.locked L.Language.means R.Rebuilder.traces parts.old)
-        (view_of V.Value.canon S.Store.shows S.Store.locked L.Language.means R.Rebuilder.traces parts.new)
+        (shown V.Value S.Store L.Language R.Rebuilder parts.old)
+        (shown V.Value S.Store L.Language R.Rebuilder parts.new)
         (number_of cell) running (asked_cells asked) (take (length (asked_cells asked)) work.now) value }
     ensures report { Joins (reported running cell (record_in parts.old.table (number_of cell)).cause) report.old report.new }
 {

@@ -3,7 +3,7 @@
 
 ghost use Rattle.std.specs.Prelude.{◌≡◌, ◌+◌, ◌-◌, ◌*◌, ◌≤◌, false, [], map, length};
 ghost use Rattle.interfaces.specs.Cells.{cell_count, ask_limit, number_of};
-ghost use Rattle.parts.specs.Shown.{view_of};
+ghost use Rattle.parts.specs.Shown.{shown};
 ghost use Rattle.moves.specs.Paths.{path_cells};
 ghost use Rattle.scheduler.specs.Outcomes.{outcome_of};
 ghost use Rattle.scheduler.specs.Settling.{Leaves, Settles, Follows};
@@ -33,8 +33,8 @@ fn settle<V: Value, S: Store<V>, L: Language<V>, R: Rebuilder<V>>(
     ensures path { Leaves (path_cells path.old) (path_cells path.new) result }
     ensures lent { report.new.list.ghost_name ≡ report.old.list.ghost_name }
     ensures settles { Settles V.Value.blank R.Rebuilder.depth
-        (view_of V.Value.canon S.Store.shows S.Store.locked L.Language.means R.Rebuilder.traces parts.old)
-        (view_of V.Value.canon S.Store.shows S.Store.locked L.Language.means R.Rebuilder.traces parts.new)
+        (shown V.Value S.Store L.Language R.Rebuilder parts.old)
+        (shown V.Value S.Store L.Language R.Rebuilder parts.new)
         (map number_of (path_cells path.old)) (number_of cell)
         report.old.ran report.old.list.now report.new.ran report.new.list.now (outcome_of V.Value.canon (path_cells path.new) result) }
 {
@@ -64,8 +64,8 @@ fn follow<V: Value, S: Store<V>, L: Language<V>, R: Rebuilder<V>>(
     ensures path { Leaves (path_cells path.old) (path_cells path.new) result }
     ensures lent { report.new.list.ghost_name ≡ report.old.list.ghost_name }
     ensures follows { Follows V.Value.blank R.Rebuilder.depth
-        (view_of V.Value.canon S.Store.shows S.Store.locked L.Language.means R.Rebuilder.traces parts.old)
-        (view_of V.Value.canon S.Store.shows S.Store.locked L.Language.means R.Rebuilder.traces parts.new)
+        (shown V.Value S.Store L.Language R.Rebuilder parts.old)
+        (shown V.Value S.Store L.Language R.Rebuilder parts.new)
         (map number_of (path_cells path.old)) (number_of cell) [] false
         report.old.ran report.old.list.now report.new.ran report.new.list.now (outcome_of V.Value.canon (path_cells path.new) result) }
 {
@@ -115,8 +115,8 @@ pub fn query<V: Value, S: Store<V>, L: Language<V>, R: Rebuilder<V>>(
           lent = record { report = length report.entry.now; chain = length chain.old; work = length work.old };
           parts_before = parts.old;
           parts_after = parts.new;
-          view_before = view_of V.Value.canon S.Store.shows S.Store.locked L.Language.means R.Rebuilder.traces parts.old;
-          view_after = view_of V.Value.canon S.Store.shows S.Store.locked L.Language.means R.Rebuilder.traces parts.new;
+          view_before = shown V.Value S.Store L.Language R.Rebuilder parts.old;
+          view_after = shown V.Value S.Store L.Language R.Rebuilder parts.new;
           report_before = report.entry.now;
           report_after = report.exit.now;
           chain_before = chain.old;
