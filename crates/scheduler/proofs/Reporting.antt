@@ -1,12 +1,14 @@
 -- The report list, and pairs of cells and values.
-use Rattle.std.proofs.Common.{◌≡◌, ℕ, suc, ◌+◌, ◌<◌, List, [], ◌∷◌, ◌++◌, map, length, take, drop, set, sym, refl, ap, ◌∙◌, subst, append-nil, arith, length-append, length-set}
-use Rattle.std.proofs.lemmas.List.{take_more_set, drop-set-lt}
+use Rattle.std.proofs.Common.{◌≡◌, ℕ, suc, ◌+◌, ◌<◌, ◌≤◌, List, [], ◌∷◌, ◌++◌, map, length, take, drop, Some, sym, refl, ap, ◌∙◌, subst, append-nil, arith, length-append, length-set}
+use Rattle.std.proofs.lemmas.List.{take_more_set, drop-set-lt, length-take-le}
+use Rattle.std.proofs.lemmas.Bool.{cond_below}
 use Rattle.interfaces.specs.declared.cell.Cell.{Cell}
 use Rattle.interfaces.specs.Cells.{cell_count, number_of}
 use Rattle.interfaces.specs.Traces.{pairs_of}
 use Rattle.past.specs.Afresh.{values}
 use Rattle.past.specs.Past.{Run, cells}
-use Rattle.scheduler.specs.declared.answer.Ran.{Ran}
+use Rattle.moves.specs.declared.answer.Ran.{Ran}
+use Rattle.moves.specs.Moves.{count_after, list_after}
 use Rattle.scheduler.specs.Outcomes.{ran_entry, run_entry, Listed}
 use Rattle.scheduler.proofs.Lengths.{drop_next}
 
@@ -28,16 +30,16 @@ module _ {V : Type 0} where
 
   -- one more run
   pub listed_push : (r : List (Run V)) (ran : ℕ) (list first : List Ran) (ran' : ℕ) (list' : List Ran) (y : Ran) (a : Run V) → ran_entry y ≡ run_entry a → Listed r ran list first → length r < cell_count
-      → (ran < cell_count → ran < length list → (ran' ≡ ran + 1) × (list' ≡ set list ran y)) → Listed (r ++ (a ∷ [])) ran' list' first
-  listed_push r ran list first ran' list' y a same k h rep =
-      let q = rep (omega (arith, k.count_is)) (omega (arith, k.count_is, k.room, k.length_is)) in
+      → ran' ≡ count_after (Some y) ran list → list' ≡ list_after (Some y) ran list → Listed (r ++ (a ∷ [])) ran' list' first
+  listed_push r ran list first ran' list' y a same k h counts lists =
       let here : ran < length list = omega (arith, k.count_is, k.room, k.length_is) in
+      let q : ran' ≡ ran + 1 = counts ∙ sym (cond_below ran (length list) (ran + 1) ran here) in
       record {
-        count_is = omega (arith, q.0, k.count_is, length-append r (a ∷ []));
-        front_is = ap (λ z. map ran_entry (take z list')) q.0 ∙ ap (λ z. map ran_entry (take (ran + 1) z)) q.1 ∙ ap (map ran_entry) (take_more_set list ran y here) ∙ map_push ran_entry (take ran list) y
+        count_is = omega (arith, q, k.count_is, length-append r (a ∷ []));
+        front_is = ap (λ z. map ran_entry (take z list')) (q) ∙ ap (λ z. map ran_entry (take (ran + 1) z)) (lists) ∙ ap (map ran_entry) (take_more_set list ran y here) ∙ map_push ran_entry (take ran list) y
             ∙ ap (λ z. z ++ (ran_entry y ∷ [])) k.front_is ∙ ap (λ z. map run_entry r ++ (z ∷ [])) same ∙ sym (map_push run_entry r a);
-        rest_is = ap (λ z. drop z list') q.0 ∙ ap (drop (ran + 1)) q.1 ∙ drop-set-lt (ran + 1) list ran y (omega arith) ∙ drop_next ran list first k.rest_is k.length_is ∙ ap (λ z. drop z first) (sym q.0);
-        length_is = ap length q.1 ∙ length-set list ran y ∙ k.length_is;
+        rest_is = ap (λ z. drop z list') (q) ∙ ap (drop (ran + 1)) (lists) ∙ drop-set-lt (ran + 1) list ran y (omega arith) ∙ drop_next ran list first k.rest_is k.length_is ∙ ap (λ z. drop z first) (sym (q));
+        length_is = ap length (lists) ∙ length-set list ran y ∙ k.length_is;
         room = k.room;
       }
 
@@ -68,3 +70,7 @@ module _ {V : Type 0} (canon : V → V) where
   pub pairs_on : {xs : List Cell} {ys : List V} (cs : List Cell) (vs : List V) (a : Cell) (v : V) → xs ≡ cs ++ (a ∷ []) → ys ≡ vs ++ (v ∷ []) → length cs ≡ length vs
       → pairs_of canon xs ys ≡ pairs_of canon cs vs ++ (record { cell = number_of a; value = canon v } ∷ [])
   pairs_on {ys = ys} cs vs a v e f n = ap (λ z. pairs_of canon z ys) e ∙ ap (λ z. pairs_of canon (cs ++ (a ∷ [])) z) f ∙ pairs_push cs vs a v n
+
+-- fronts of equal length
+pub front_lengths : {A B : Type 0} (n : ℕ) (xs : List A) (ys : List B) → n ≤ length xs → n ≤ length ys → length (take n xs) ≡ length (take n ys)
+front_lengths n xs ys h k = length-take-le n xs h ∙ sym (length-take-le n ys k)
