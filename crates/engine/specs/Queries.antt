@@ -9,7 +9,7 @@ use Rattle.past.specs.Afresh.{Log, Outcome}
 use Rattle.past.specs.Past.{Lent, Run, Request, Call, refused, queried, request, Past, ◌▹◌}
 use Rattle.past.specs.Law.{Lawful}
 use Rattle.view.specs.View.{View, Shows}
-use Rattle.scheduler.specs.declared.answer.Ran.{Ran}
+use Rattle.moves.specs.declared.answer.Ran.{Ran}
 use Rattle.scheduler.specs.declared.answer.Answer.{Answer}
 use Rattle.scheduler.specs.Outcomes.{outcome_of, chain_in, ran_entry, run_entry}
 

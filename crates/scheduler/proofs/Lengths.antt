@@ -1,73 +1,13 @@
 -- Lists by places.
-use Rattle.std.proofs.Common.{◌≡◌, ℕ, zero, suc, ◌+◌, ◌<◌, ◌≤◌, List, [], ◌∷◌, ◌++◌, map, length, get_or, take, drop, set, sym, refl, ap, ◌∙◌, add-one, arith, take-take}
-use Rattle.interfaces.specs.declared.cell.Cell.{Cell}
-use Rattle.interfaces.specs.Cells.{number_of}
-use Rattle.past.specs.Afresh.{In, first, later}
-
--- a cell at a place is in the list
-pub in_at : (x : ℕ) (l : List Cell) (i : ℕ) (z : Cell) → i < length l → number_of (get_or l i z) ≡ x → In x (map number_of l)
-in_at x [] i z h e = absurd (omega arith)
-in_at x (y ∷ l) zero z h e = first (sym e)
-in_at x (y ∷ l) (suc i) z h e = later (in_at x l i z (omega arith) e)
-
-at_in : (x : ℕ) (l : List Cell) (z : Cell) → In x (map number_of l) → (i : ℕ) × (i < length l) × (number_of (get_or l i z) ≡ x)
-at_in x [] z o = elim o [ ]
-at_in x (y ∷ l) z (first e) = (0, omega arith, sym e)
-at_in x (y ∷ l) z (later o) = let r = at_in x l z o in (suc r.0, omega (arith, r.1), r.2)
-
-pub not_in : (x : ℕ) (l : List Cell) (z : Cell) → ((k : ℕ) → k < length l → number_of (get_or l k z) ≡ x → ⊥) → In x (map number_of l) → ⊥
-not_in x l z h o = let r = at_in x l z o in h r.0 r.1 r.2
+use Rattle.std.proofs.Common.{◌≡◌, ℕ, zero, suc, ◌+◌, ◌-◌, ◌<◌, ◌≤◌, List, [], ◌∷◌, ◌++◌, length, take, drop, refl, ap, ◌∙◌, add-one, arith, take_all, length-append}
+use Rattle.std.proofs.Math.Seq.{take-append_seam}
 
 module _ {A : Type 0} where
-  take_set_here : (ys : List A) (n : ℕ) (v : A) → take n (set ys n v) ≡ take n ys
-  take_set_here [] zero v = refl
-  take_set_here [] (suc n) v = refl
-  take_set_here (y ∷ ys) zero v = refl
-  take_set_here (y ∷ ys) (suc n) v = ap (λ z. y ∷ z) (take_set_here ys n v)
+  -- a list that has room for one more
+  pub pushed : (n : ℕ) (xs ys : List A) (v : A) → ys ≡ take n (xs ++ (v ∷ [])) → length xs < n → ys ≡ xs ++ (v ∷ [])
+  pushed n xs ys v e h = e ∙ take_all n (xs ++ (v ∷ [])) (omega (arith, length-append xs (v ∷ [])))
 
-  -- what leaves a longer front as it is leaves a shorter one
-  pub front_back : (xs ys : List A) (n : ℕ) (v : A) → take (n + 1) xs ≡ take (n + 1) (set ys n v) → take n xs ≡ take n ys
-  front_back xs ys n v e = sym (take-take n (n + 1) xs (omega arith)) ∙ ap (take n) e ∙ take-take n (n + 1) (set ys n v) (omega arith) ∙ take_set_here ys n v
-
-  copied_suc : (to from : List A) (i : ℕ) (d : A) → i < length from → i < length to → set (take i from ++ drop i to) i (get_or from i d) ≡ take (suc i) from ++ drop (suc i) to
-  copied_suc to [] i d h k = absurd (omega arith)
-  copied_suc [] (y ∷ from) i d h k = absurd (omega arith)
-  copied_suc (x ∷ to) (y ∷ from) zero d h k = refl
-  copied_suc (x ∷ to) (y ∷ from) (suc i) d h k = ap (λ z. y ∷ z) (copied_suc to from i d (omega arith) (omega arith))
-
-  -- one more is copied
-  pub copied : (now to from : List A) (i : ℕ) (d : A) → now ≡ take i from ++ drop i to → i < length from → i < length to → set now i (get_or from i d) ≡ take (i + 1) from ++ drop (i + 1) to
-  copied now to from i d e h k = ap (λ z. set z i (get_or from i d)) e ∙ rw add-one (copied_suc to from i d h k)
-
-  -- a copied front stands in front
-  pub front_is : (to from : List A) (n : ℕ) → n ≤ length from → take n (take n from ++ drop n to) ≡ take n from
-  front_is to from zero h = refl
-  front_is to [] (suc n) h = absurd (omega arith)
-  front_is [] (y ∷ from) (suc n) h = ap (λ z. y ∷ z) (alone from n (omega arith))
-    where
-      alone : (from : List A) (n : ℕ) → n ≤ length from → take n (take n from ++ []) ≡ take n from
-      alone from zero h = refl
-      alone [] (suc n) h = absurd (omega arith)
-      alone (y ∷ from) (suc n) h = ap (λ z. y ∷ z) (alone from n (omega arith))
-  front_is (x ∷ to) (y ∷ from) (suc n) h = ap (λ z. y ∷ z) (front_is to from n (omega arith))
-
-  -- and the rest behind it
-  pub rest_is : (to from : List A) (n : ℕ) → n ≤ length from → n ≤ length to → drop n (take n from ++ drop n to) ≡ drop n to
-  rest_is to from zero h k = refl
-  rest_is to [] (suc n) h k = absurd (omega arith)
-  rest_is [] (y ∷ from) (suc n) h k = absurd (omega arith)
-  rest_is (x ∷ to) (y ∷ from) (suc n) h k = rest_is to from n (omega arith) (omega arith)
-
-  -- lists alike from a place on are alike from the next
-  pub drop_next : (n : ℕ) (xs ys : List A) → drop n xs ≡ drop n ys → length xs ≡ length ys → drop (n + 1) xs ≡ drop (n + 1) ys
-  drop_next n xs ys e l = rw add-one (go n xs ys e l)
-    where
-      go : (n : ℕ) (xs ys : List A) → drop n xs ≡ drop n ys → length xs ≡ length ys → drop (suc n) xs ≡ drop (suc n) ys
-      go zero [] [] e l = refl
-      go zero [] (y ∷ ys) e l = absurd (omega arith)
-      go zero (x ∷ xs) [] e l = absurd (omega arith)
-      go zero (x ∷ xs) (y ∷ ys) e l = cc
-      go (suc n) [] [] e l = refl
-      go (suc n) [] (y ∷ ys) e l = absurd (omega arith)
-      go (suc n) (x ∷ xs) [] e l = absurd (omega arith)
-      go (suc n) (x ∷ xs) (y ∷ ys) e l = go n xs ys e (omega arith)
+  -- and that is as it was without it
+  pub popped : (xs ys zs : List A) (v : A) → ys ≡ xs ++ (v ∷ []) → zs ≡ take (length ys - 1) ys → zs ≡ xs
+  popped xs ys zs v e f =
+      f ∙ ap (λ z. take (length z - 1) z) e ∙ ap (λ n. take n (xs ++ (v ∷ []))) (omega (arith, length-append xs (v ∷ []))) ∙ take-append_seam xs (v ∷ [])

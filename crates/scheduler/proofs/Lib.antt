@@ -1,6 +1,7 @@
 pub mod Lengths
-pub mod Seeing
 pub mod Reporting
+pub mod Going
+pub mod Turning
 pub mod Stepping
 pub mod Codes
 pub mod Queries

@@ -1,23 +1,37 @@
 -- A query, by the settling of its cell.
-use Rattle.std.proofs.Common.{◌≡◌, ℕ, ◌<◌, ◌≤◌, Bool, ◌⊎◌, List, [], ◌++◌, map, length, take, drop, Ok, Err, sym, refl, ap, ◌∙◌, subst, inl, inr, arith}
+use Rattle.std.proofs.Common.{◌≡◌, ℕ, ◌<◌, ◌≤◌, Bool, ◌⊎◌, List, [], ◌∷◌, ◌++◌, map, length, take, drop, Ok, Err, sym, refl, ap, ◌∙◌, subst, inl, inr, arith, take_all}
 use native.Mathlib.Decide.{dec_lt}
-use Rattle.std.proofs.lemmas.List.{length-take-le}
+use Rattle.std.proofs.Math.Seq.{take-append_seam, drop-append_seam}
+use Rattle.std.proofs.lemmas.List.{length-map, length-take}
 use Rattle.interfaces.specs.declared.cell.Cell.{Cell}
-use Rattle.interfaces.specs.declared.refusal.Refusal.TheVariants.{ShortMemory}
+use Rattle.interfaces.specs.declared.refusal.Refusal.{Refusal}
 use Rattle.interfaces.specs.Cells.{cell_count, work_length, number_of}
-use Rattle.interfaces.specs.Refusals.{no as refusal}
+use Rattle.interfaces.specs.Refusals.{said, no as refusal}
 use Rattle.interfaces.specs.Tasks.{Verdict}
 use Rattle.past.specs.Afresh.{Log, Outcome, gave, fault}
-use Rattle.past.specs.Past.{Run, query, refused, queried, Past, ◌▹◌}
+use Rattle.past.specs.Past.{Lent, Run, query, refused, queried, Past, ◌▹◌}
 use Rattle.past.specs.Law.{Lawful}
-use Rattle.view.specs.View.{Shows}
+use Rattle.view.specs.View.{View, Shows}
+use Rattle.midway.specs.Midway.{Mid, Open, Brought}
 use Rattle.midway.proofs.Ends.{mid_start, mid_end, lawful_end, refused_shows, refused_lawful}
-use Rattle.scheduler.specs.declared.answer.Fault.{Fault}
-use Rattle.scheduler.specs.Outcomes.{outcome_of, layer_of, ran_entry, run_entry, Listed}
-use Rattle.scheduler.specs.Moves.{Settles}
-use Rattle.scheduler.specs.Promise.{Enough, Setting, Refused, Answered}
-use Rattle.scheduler.proofs.Lengths.{front_is, rest_is}
-use Rattle.scheduler.proofs.Reporting.{length_map}
+use Rattle.moves.specs.declared.answer.Fault.{Fault}
+use Rattle.moves.specs.declared.answer.Ran.{Ran}
+use Rattle.moves.specs.declared.path.Path.{Path}
+use Rattle.moves.specs.Paths.{path_cells}
+use Rattle.scheduler.specs.declared.answer.Answer.{Answer}
+use Rattle.scheduler.specs.Outcomes.{outcome_of, layer_of, chain_in, ran_entry, run_entry, Listed}
+use Rattle.scheduler.specs.Settling.{Settles}
+use Rattle.scheduler.specs.Promise.{Enough, Setting, Queried, Refused, Answered}
+
+pub few_cells : (p : Path) → length (path_cells p) ≤ cell_count
+few_cells p = omega (arith, p.short, length-take p.len p.cells)
+
+-- settling a cell with no path and no runs yet, where the lists are named otherwise
+pub settled_as : {V : Type 0} (blank : V) (depth : ℕ) (w w' : View V) (a : ℕ) (o : Outcome V) {path : List ℕ} {ran₀ ran ran' : ℕ} {list₀ list list' before : List Ran}
+    → path ≡ [] → ran₀ ≡ 0 → list₀ ≡ before → ran' ≡ ran → list' ≡ list → Settles blank depth w w' path a ran₀ list₀ ran list o → Settles blank depth w w' [] a 0 before ran' list' o
+settled_as blank depth w w' a o {ran₀ = ran₀} {ran = ran} {list₀ = list₀} {list = list} {list' = list'} {before = before} p n l m k s =
+    subst (λ z. Settles blank depth w w' [] a 0 before z list' o) (sym m) (subst (λ z. Settles blank depth w w' [] a 0 before ran z o) (sym k)
+    (subst (λ z. Settles blank depth w w' [] a 0 z ran list o) l (subst (λ z. Settles blank depth w w' [] a z list₀ ran list o) n (subst (λ z. Settles blank depth w w' z a ran₀ list₀ ran list o) p s))))
 
 module _ {P V : Type 0} (canon : V → V) (blank : V) (locks : ℕ → Bool) (stands : List ℕ → Verdict V) (depth : ℕ) (same : (v w : V) → Dec (v ≡ w)) (q : Setting P V) (small : q.cell < cell_count) where
   too_little : ¬ Enough q.lent → (q.lent.report < cell_count) ⊎ ((q.lent.chain < cell_count) ⊎ (q.lent.work < work_length))
@@ -29,11 +43,11 @@ module _ {P V : Type 0} (canon : V → V) (blank : V) (locks : ℕ → Bool) (st
       go (no _) (no _) (yes c) = inr (inr c)
       go (no a) (no b) (no c) = absurd (n (record { report = omega arith; chain = omega arith; work = omega arith }))
 
-  pub refuses : ¬ Enough q.lent → q.parts_after ≡ q.parts_before → q.view_after ≡ q.view_before → q.report_after ≡ q.report_before → q.chain_after ≡ q.chain_before → q.work_after ≡ q.work_before
-      → Refused canon blank locks stands depth q ShortMemory
-  refuses n ps vs rs cs ws = record {
+  pub refuses : (e : Refusal) → said e ≡ refusal 1 → ¬ Enough q.lent → q.parts_after ≡ q.parts_before → q.view_after ≡ q.view_before → q.report_after ≡ q.report_before → q.chain_after ≡ q.chain_before → q.work_after ≡ q.work_before
+      → Refused canon blank locks stands depth q e
+  refuses e k n ps vs rs cs ws = record {
     short = n;
-    number = refl;
+    number = k;
     same_parts = ps;
     same_report = rs;
     same_chain = cs;
@@ -88,10 +102,10 @@ module _ {P V : Type 0} (canon : V → V) (blank : V) (locks : ℕ → Bool) (st
       };
     }
 
-    pub faults : (f : Fault) (path : List Cell) → f.chain ≤ length path → f.chain ≤ length q.chain_before → q.chain_after ≡ take f.chain path ++ drop f.chain q.chain_before
+    pub faults : (f : Fault) (path : List Cell) → f.chain ≡ length path → f.chain ≤ length q.chain_before → q.chain_after ≡ path ++ drop f.chain q.chain_before
         → Settles blank depth q.view_before q.view_after [] q.cell 0 q.report_before ran q.report_after (outcome_of canon path (Err f))
         → Answered canon blank locks stands depth q (record { outcome = Err f; runs = ran })
-    faults f path n n' e st = record {
+    faults f path m n' k st = record {
       enough = enough;
       queried = λ p h s. let a = came (outcome_of canon path (Err f)) st p h s in record {
         log = a.log;
@@ -104,12 +118,18 @@ module _ {P V : Type 0} (canon : V → V) (blank : V) (locks : ℕ → Bool) (st
         listed = counted_front a.listed;
         report_rest = counted_rest a.listed;
         chained = ap (λ z. map number_of (take z q.chain_after)) size ∙ ap (map number_of) front;
-        chain_rest = ap (λ z. drop z q.chain_after) size ∙ ap (drop f.chain) e ∙ rest_is q.chain_before path f.chain n n' ∙ ap (λ z. drop z q.chain_before) (sym size);
+        chain_rest = ap (λ z. drop z q.chain_after) size ∙ rest ∙ ap (λ z. drop z q.chain_before) (sym size);
       };
     }
       where
+        whole : take f.chain path ≡ path
+        whole = take_all f.chain path (omega (arith, m))
+
         front : take f.chain q.chain_after ≡ take f.chain path
-        front = ap (take f.chain) e ∙ front_is q.chain_before path f.chain n
+        front = ap (take f.chain) k ∙ ap (λ n. take n (path ++ drop f.chain q.chain_before)) m ∙ take-append_seam path (drop f.chain q.chain_before) ∙ sym whole
+
+        rest : drop f.chain q.chain_after ≡ drop f.chain q.chain_before
+        rest = ap (drop f.chain) k ∙ ap (λ n. drop n (path ++ drop f.chain q.chain_before)) m ∙ drop-append_seam path (drop f.chain q.chain_before)
 
         size : length (map number_of (take f.chain path)) ≡ f.chain
-        size = length_map number_of (take f.chain path) ∙ length-take-le f.chain path n
+        size = length-map (take f.chain path) number_of ∙ ap length whole ∙ sym m

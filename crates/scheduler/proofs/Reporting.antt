@@ -1,22 +1,16 @@
 -- The report list, and pairs of cells and values.
-use Rattle.std.proofs.Common.{◌≡◌, ℕ, suc, ◌+◌, ◌<◌, List, [], ◌∷◌, ◌++◌, map, length, take, drop, set, sym, refl, ap, ◌∙◌, subst, append-nil, arith, length-append, length-set}
-use Rattle.std.proofs.lemmas.List.{take_more_set, drop-set-lt}
+use Rattle.std.proofs.Common.{◌≡◌, ℕ, suc, ◌+◌, ◌<◌, ◌≤◌, List, [], ◌∷◌, ◌++◌, map, length, take, drop, Some, sym, refl, ap, ◌∙◌, subst, append-nil, arith, length-append, length-set}
+use Rattle.std.proofs.lemmas.List.{take_more_set, drop-set-lt, map-append}
+use Rattle.std.proofs.lemmas.Grind.{drop_more_same}
+use Rattle.std.proofs.lemmas.Bool.{cond_below}
 use Rattle.interfaces.specs.declared.cell.Cell.{Cell}
 use Rattle.interfaces.specs.Cells.{cell_count, number_of}
 use Rattle.interfaces.specs.Traces.{pairs_of}
 use Rattle.past.specs.Afresh.{values}
 use Rattle.past.specs.Past.{Run, cells}
-use Rattle.scheduler.specs.declared.answer.Ran.{Ran}
+use Rattle.moves.specs.declared.answer.Ran.{Ran}
+use Rattle.moves.specs.Moves.{count_after, list_after}
 use Rattle.scheduler.specs.Outcomes.{ran_entry, run_entry, Listed}
-use Rattle.scheduler.proofs.Lengths.{drop_next}
-
-pub map_push : {A B : Type 0} (f : A → B) (xs : List A) (y : A) → map f (xs ++ (y ∷ [])) ≡ map f xs ++ (f y ∷ [])
-map_push f [] y = refl
-map_push f (x ∷ xs) y = ap (λ z. f x ∷ z) (map_push f xs y)
-
-pub length_map : {A B : Type 0} (f : A → B) (xs : List A) → length (map f xs) ≡ length xs
-length_map f [] = refl
-length_map f (x ∷ xs) = ap suc (length_map f xs)
 
 module _ {V : Type 0} where
   pub listed_same : {r r' : List (Run V)} {ran : ℕ} {list first : List Ran} → r ≡ r' → Listed r ran list first → Listed r' ran list first
@@ -28,16 +22,16 @@ module _ {V : Type 0} where
 
   -- one more run
   pub listed_push : (r : List (Run V)) (ran : ℕ) (list first : List Ran) (ran' : ℕ) (list' : List Ran) (y : Ran) (a : Run V) → ran_entry y ≡ run_entry a → Listed r ran list first → length r < cell_count
-      → (ran < cell_count → ran < length list → (ran' ≡ ran + 1) × (list' ≡ set list ran y)) → Listed (r ++ (a ∷ [])) ran' list' first
-  listed_push r ran list first ran' list' y a same k h rep =
-      let q = rep (omega (arith, k.count_is)) (omega (arith, k.count_is, k.room, k.length_is)) in
+      → ran' ≡ count_after (Some y) ran list → list' ≡ list_after (Some y) ran list → Listed (r ++ (a ∷ [])) ran' list' first
+  listed_push r ran list first ran' list' y a same k h counts lists =
       let here : ran < length list = omega (arith, k.count_is, k.room, k.length_is) in
+      let q : ran' ≡ ran + 1 = counts ∙ sym (cond_below ran (length list) (ran + 1) ran here) in
       record {
-        count_is = omega (arith, q.0, k.count_is, length-append r (a ∷ []));
-        front_is = ap (λ z. map ran_entry (take z list')) q.0 ∙ ap (λ z. map ran_entry (take (ran + 1) z)) q.1 ∙ ap (map ran_entry) (take_more_set list ran y here) ∙ map_push ran_entry (take ran list) y
-            ∙ ap (λ z. z ++ (ran_entry y ∷ [])) k.front_is ∙ ap (λ z. map run_entry r ++ (z ∷ [])) same ∙ sym (map_push run_entry r a);
-        rest_is = ap (λ z. drop z list') q.0 ∙ ap (drop (ran + 1)) q.1 ∙ drop-set-lt (ran + 1) list ran y (omega arith) ∙ drop_next ran list first k.rest_is k.length_is ∙ ap (λ z. drop z first) (sym q.0);
-        length_is = ap length q.1 ∙ length-set list ran y ∙ k.length_is;
+        count_is = omega (arith, q, k.count_is, length-append r (a ∷ []));
+        front_is = ap (λ z. map ran_entry (take z list')) (q) ∙ ap (λ z. map ran_entry (take (ran + 1) z)) (lists) ∙ ap (map ran_entry) (take_more_set list ran y here) ∙ map-append ran_entry (take ran list) (y ∷ [])
+            ∙ ap (λ z. z ++ (ran_entry y ∷ [])) k.front_is ∙ ap (λ z. map run_entry r ++ (z ∷ [])) same ∙ sym (map-append run_entry r (a ∷ []));
+        rest_is = ap (λ z. drop z list') (q) ∙ ap (drop (ran + 1)) (lists) ∙ drop-set-lt (ran + 1) list ran y (omega arith) ∙ drop_more_same list first ran k.rest_is ∙ ap (λ z. drop z first) (sym (q));
+        length_is = ap length (lists) ∙ length-set list ran y ∙ k.length_is;
         room = k.room;
       }
 

@@ -1,13 +1,12 @@
 -- Each way through the scheduler, by what the workbook shows before and after.
-use Rattle.std.proofs.Common.{◌≡◌, ℕ, ◌-◌, ◌<◌, ◌≤◌, Bool, true, false, List, [], ◌∷◌, ◌++◌, map, length, take, Some, None, Option as Maybe, Result, sym, refl, ap, ◌∙◌, subst, inl, inr, append_assoc, arith, length-append}
+use Rattle.std.proofs.Common.{◌≡◌, ℕ, ◌<◌, ◌≤◌, Bool, true, false, cond, List, [], ◌∷◌, ◌++◌, map, length, Some, None, Err, Option as Maybe, sym, refl, ap, ◌∙◌, subst, inl, inr, append_assoc, arith, length-append}
 use mathlib.Core.Option.{Option, none, some}
-use native.Mathlib.Nat.{sub-zero}
 use Rattle.interfaces.specs.declared.cell.Cell.{Cell}
 use Rattle.interfaces.specs.Cells.{cell_count, ask_limit, number_of}
 use Rattle.interfaces.specs.Tasks.{Act, asks, gives, faults, Def, Verdict, step_of}
-use Rattle.interfaces.specs.Traces.{Pair, Trace, pairs_of, runs, keeps}
+use Rattle.interfaces.specs.Traces.{Pair, pairs_of, runs}
 use Rattle.past.specs.Afresh.{In, Log, Layer, engine, language, Outcome, gave, fault, values}
-use Rattle.past.specs.Past.{Past, Run, defs, Cause, never, touched}
+use Rattle.past.specs.Past.{Past, Run, cells, defs, Cause, never, touched}
 use Rattle.past.specs.Law.{Lawful}
 use Rattle.past.proofs.Lists.{no_some}
 use Rattle.view.specs.View.{View}
@@ -16,11 +15,13 @@ use Rattle.midway.specs.Midway.{Mid, Ready, Brought, Ended}
 use Rattle.midway.proofs.Midway as midway
 use Rattle.midway.proofs.Short.{defined_open, mid_short, path_short}
 use Rattle.table.specs.Records.{number_in}
-use Rattle.scheduler.specs.declared.answer.Located.{Located}
-use Rattle.scheduler.specs.declared.answer.Ran.{Ran}
-use Rattle.scheduler.specs.declared.moves.Turn.{Turn}
+use Rattle.moves.specs.declared.answer.Ran.{Ran}
+use Rattle.moves.specs.declared.asks.AskFault.{AskFault}
+use Rattle.moves.specs.declared.asks.AskFault.TheVariants.{Circle, NinthAsk}
+use Rattle.moves.specs.Moves.{fault_number, AskFaults, Concludes, count_after, list_after, reported}
 use Rattle.scheduler.specs.Outcomes.{Listed}
-use Rattle.scheduler.specs.Moves.{Wants, Turns, AskFaults, Closes, Concludes, Reports, Settles, Follows}
+use Rattle.scheduler.specs.Settling.{Settles, Follows}
+use Rattle.scheduler.proofs.Turning.{Wants, Ends, recorded}
 use Rattle.scheduler.proofs.Reporting.{listed_same, listed_on, listed_push, cells_pairs, values_pairs, length_pairs}
 
 some_cause : (z : Option ℕ) → ¬ (z ≡ none) → (y : ℕ) × (z ≡ some y)
@@ -70,17 +71,10 @@ module _ {V : Type 0} (blank : V) (depth : ℕ) (same : (v w : V) → Dec (v ≡
         (f.0, listed_on r f.1 ls)
 
     -- an ask that faults
-    pub ask_fails : (a n ran : ℕ) (list : List Ran) → Wants (w.traces x) step pairs running a → AskFaults (length cs) (w.cause a ≡ none → ⊥) (In a path) (Some n)
-        → Follows blank depth w w path x pairs running ran list ran list (fault n a x engine path)
-    ask_fails a n ran list u (inl (e, h)) = subst (λ z. Follows blank depth w w path x pairs running ran list ran list (fault z a x engine path)) (sym e) (ninth a ran list u h)
-    ask_fails a n ran list u (inr (e, h, c, o)) = subst (λ z. Follows blank depth w w path x pairs running ran list ran list (fault z a x engine path)) (sym e) (circle a ran list u h c o)
-
-    pub kept : (v : V) (w' : View V) (ran : ℕ) (list : List Ran) → Plans (w.traces x) pairs (keeps (canon v)) → Closes w w' x (canon v) (map number_of cs)
-        → Follows blank depth w w' path x pairs running ran list ran list (gave (canon v))
-    kept v w' ran list u ch locks stands p l r d first h m ready ls =
-        let e = ch.ended (is_open locks stands p l r d h m ready) in
-        let f = midway.follow_keep blank locks stands depth same p h l r w m path x d pairs running ready (canon v) w' u (subst (λ z. Ended w w' x (canon v) z) (sym (cells_pairs canon cs vs len)) e) ch.traces in
-        (f.0, listed_on r f.1 ls)
+    pub ask_fails : (a : ℕ) (b : AskFault) (ran : ℕ) (list : List Ran) → Wants (w.traces x) step pairs running a → AskFaults (length cs) (w.cause a ≡ none → ⊥) (In a path) (Err b)
+        → Follows blank depth w w path x pairs running ran list ran list (fault (fault_number b) a x engine path)
+    ask_fails a NinthAsk ran list u h = ninth a ran list u h
+    ask_fails a Circle ran list u (h, c, o) = circle a ran list u h c o
 
     -- a run begins anew
     pub begun : (w' : View V) (ran : ℕ) (list : List Ran) (ran' : ℕ) (list' : List Ran) (o : Outcome V) → Plans (w.traces x) pairs runs
@@ -113,17 +107,32 @@ module _ {V : Type 0} (blank : V) (depth : ℕ) (same : (v w : V) → Dec (v ≡
         let g = fo' locks stands p (l ++ k.more) (r ++ k.ran_more) d first h k.mid_on k.ready_on (listed_same (ap (λ z. r ++ z) (sym k.ran_is)) b.1) in
         (k.join w₂ o g.0, listed_same (append_assoc r k.ran_more g.0.report ∙ ap (λ z. r ++ z) (sym (k.joined w₂ o g.0))) g.1)
 
-  pub given : (cell : Cell) (v : V) (w' : View V) (ran : ℕ) (list : List Ran) (ran' : ℕ) (list' : List Ran) (mc : Maybe Cell) → number_of cell ≡ x → number_in mc ≡ w.cause x → step ≡ gives (canon v)
-      → Concludes depth w w' x pairs (canon v) (map number_of cs) → Reports cell mc ran list ran' list'
+  -- what a conclusion leaves at a cell that is not locked
+  ended : (running running' : Bool) (w' : View V) (v : V) (locks : ℕ → Bool) (stands : List ℕ → Verdict V) (p : Past V) (l : Log V) (r : List (Run V)) (d : Def V) → Lawful blank locks stands depth p → Mid blank locks depth p l r w
+      → Ready blank locks depth p l path x d pairs running' → Concludes canon depth w w' x running cs vs v → Ended w w' x (canon v) (cells pairs)
+  ended running running' w' v locks stands p l r d h m ready ch =
+      subst (λ z. Ended w w' x (canon v) z) (sym (cells_pairs canon cs vs len)) (subst (λ b. Ended w w' x (cond b (w.stored x) (canon v)) (map number_of cs)) (is_open locks stands p l r d h m ready) ch.ended)
+
+  given : length cs ≤ ask_limit → (cell : Cell) (v : V) (w' : View V) (ran : ℕ) (list : List Ran) (ran' : ℕ) (list' : List Ran) (mc : Maybe Cell) → number_of cell ≡ x → number_in mc ≡ w.cause x → step ≡ gives (canon v)
+      → Concludes canon depth w w' x true cs vs v → ran' ≡ count_after (reported true cell mc) ran list → list' ≡ list_after (reported true cell mc) ran list
       → Follows blank depth w w' path x pairs true ran list ran' list' (gave (canon v))
-  given cell v w' ran list ran' list' None c-is mc-is u ch rep locks stands p l r d first h m ready ls =
+  given few cell v w' ran list ran' list' None c-is mc-is u ch counts lists locks stands p l r d first h m ready ls =
       absurd (m.calm x (sym mc-is) (ready.path_doubts x ready.on_path).0 (ready.path_doubts x ready.on_path).1)
-  given cell v w' ran list ran' list' (Some y) c-is mc-is u ch rep locks stands p l r d first h m ready ls =
-      let e = ch.ended (is_open locks stands p l r d h m ready) in
-      let f = midway.follow_give blank locks stands depth same p h l r w m path x d pairs true ready (canon v) w' (number_of y) refl (sym mc-is) (sym (step_is locks stands p l r d h m ready) ∙ u) (subst (λ z. Ended w w' x (canon v) z) (sym (cells_pairs canon cs vs len)) e) ch.traces in
+  given few cell v w' ran list ran' list' (Some y) c-is mc-is u ch counts lists locks stands p l r d first h m ready ls =
+      let f = midway.follow_give blank locks stands depth same p h l r w m path x d pairs true ready (canon v) w' (number_of y) refl (sym mc-is) (sym (step_is locks stands p l r d h m ready) ∙ u) (ended true true w' v locks stands p l r d h m ready ch)
+      (λ k. ch.traces k ∙ recorded canon cs vs v len few depth x w.traces k) in
       let a : Run V = record { cell = x; cause = number_of y; trace = record { asks = pairs; result = canon v } } in
       let short = mid_short blank locks stands depth p h (l ++ f.0.log) (r ++ f.0.report) w' f.0.mid in
-      (f.0, listed_same (ap (λ z. r ++ z) (sym f.1)) (listed_push r ran list first ran' list' (record { cell = cell; cause = y }) a (λ i. record { cell = c-is i; cause = number_of y }) ls (omega (arith, short, length-append r f.0.report, ap length f.1)) rep))
+      (f.0, listed_same (ap (λ z. r ++ z) (sym f.1)) (listed_push r ran list first ran' list' (record { cell = cell; cause = y }) a (λ i. record { cell = c-is i; cause = number_of y }) ls (omega (arith, short, length-append r f.0.report, ap length f.1)) counts lists))
+
+  -- the cell comes to a value, which its run gives or which it keeps
+  pub done : length cs ≤ ask_limit → (running : Bool) (cell : Cell) (v : V) (w' : View V) (ran : ℕ) (list : List Ran) (ran' : ℕ) (list' : List Ran) (mc : Maybe Cell) → number_of cell ≡ x → number_in mc ≡ w.cause x
+      → Ends (w.traces x) step pairs running (canon v) → Concludes canon depth w w' x running cs vs v → ran' ≡ count_after (reported running cell mc) ran list → list' ≡ list_after (reported running cell mc) ran list
+      → Follows blank depth w w' path x pairs running ran list ran' list' (gave (canon v))
+  done few true cell v w' ran list ran' list' mc c-is mc-is u ch counts lists locks stands p l r d first h m ready ls = given few cell v w' ran list ran' list' mc c-is mc-is u ch counts lists locks stands p l r d first h m ready ls
+  done few false cell v w' ran list ran' list' mc c-is mc-is u ch counts lists locks stands p l r d first h m ready ls =
+      let f = midway.follow_keep blank locks stands depth same p h l r w m path x d pairs false ready (canon v) w' u (ended false false w' v locks stands p l r d h m ready ch) ch.traces in
+      (f.0, subst (λ z. Listed (r ++ f.0.report) z list' first) (sym counts) (subst (λ z. Listed (r ++ f.0.report) ran z first) (sym lists) (listed_on r f.1 ls)))
 
 module _ {V : Type 0} (blank : V) (depth : ℕ) (same : (v w : V) → Dec (v ≡ w)) (w : View V) (path : List ℕ) (a : ℕ) where
   pub settled_read : (v : V) (ran : ℕ) (list : List Ran) → v ≡ w.stored a → w.cause a ≡ none → Settles blank depth w w path a ran list ran list (gave v)
@@ -152,16 +161,3 @@ module _ {V : Type 0} (blank : V) (depth : ℕ) (same : (v w : V) → Dec (v ≡
 pub follows_as : {V : Type 0} (blank : V) (depth : ℕ) (w w' : View V) (path : List ℕ) (x : ℕ) (pairs : List (Pair V)) (running : Bool) (ran : ℕ) (list : List Ran) (ran' : ℕ) (list' : List Ran) {o o' : Outcome V}
     → o ≡ o' → Follows blank depth w w' path x pairs running ran list ran' list' o → Follows blank depth w w' path x pairs running ran list ran' list' o'
 follows_as blank depth w w' path x pairs running ran list ran' list' e f = subst (λ z. Follows blank depth w w' path x pairs running ran list ran' list' z) e f
-
--- a slice from the start is taken to its length less 0
-pub turned : {V : Type 0} (canon : V → V) (traces : List (Trace V)) (blank : V) (d : Option (Def V)) (asked : List Cell) (work : List V) (running : Bool) (cell chain n : ℕ) {t t' : Result (Turn V) Located}
-    → t ≡ t' → Turns canon traces (step_of blank d (map canon (take (n - 0) work))) (pairs_of canon (take (n - 0) asked) (take (n - 0) work)) running cell chain t
-    → Turns canon traces (step_of blank d (map canon (take n work))) (pairs_of canon (take n asked) (take n work)) running cell chain t'
-turned canon traces blank d asked work running cell chain n {t} {t'} e u =
-    subst (λ z. Turns canon traces (step_of blank d (map canon (take n work))) (pairs_of canon (take n asked) (take n work)) running cell chain z) e
-    (subst (λ k. Turns canon traces (step_of blank d (map canon (take k work))) (pairs_of canon (take k asked) (take k work)) running cell chain t) (sub-zero n) u)
-
--- so it is with the path before an ask
-pub ask_faulted : (count count' : ℕ) (doubted : Type 0) (a depth : ℕ) (path : List Cell) (r : Maybe ℕ) → count ≡ count'
-    → AskFaults count doubted (In a (map number_of (take (depth - 0) path))) r → AskFaults count' doubted (In a (map number_of (take depth path))) r
-ask_faulted count count' doubted a depth path r e u = subst (λ z. AskFaults z doubted (In a (map number_of (take depth path))) r) e (subst (λ k. AskFaults count doubted (In a (map number_of (take k path))) r) (sub-zero depth) u)

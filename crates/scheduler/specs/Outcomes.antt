@@ -1,13 +1,13 @@
 -- What the answers and lists of a query mean.
-use Rattle.std.specs.Prelude.{◌≡◌, ℕ, ◌≤◌, List, [], map, length, take, drop, Ok, Err, Result}
+use Rattle.std.specs.Prelude.{◌≡◌, ℕ, ◌≤◌, List, [], ◌∷◌, map, length, take, drop, Ok, Err, Result}
 use Rattle.interfaces.specs.declared.cell.Cell.{Cell}
 use Rattle.interfaces.specs.Cells.{cell_count, number_of}
 use Rattle.past.specs.Afresh.{Layer, engine, language, Outcome, gave, fault}
 use Rattle.past.specs.Past.{Run}
-use Rattle.scheduler.specs.declared.answer.Layer.{Layer as Side}
-use Rattle.scheduler.specs.declared.answer.Layer.TheVariants.{Engine, Language}
-use Rattle.scheduler.specs.declared.answer.Fault.{Fault}
-use Rattle.scheduler.specs.declared.answer.Ran.{Ran}
+use Rattle.moves.specs.declared.answer.Layer.{Layer as Side}
+use Rattle.moves.specs.declared.answer.Layer.TheVariants.{Engine, Language}
+use Rattle.moves.specs.declared.answer.Fault.{Fault}
+use Rattle.moves.specs.declared.answer.Ran.{Ran}
 
 -- the layer of a fault
 abbrev pub layer_of : Side → Layer

@@ -1,168 +1,103 @@
 // The scheduler: a query brings its cell up to date, and whatever that needs.
 #![tactic(auto)]
 
-ghost use Rattle.std.specs.Prelude.{◌≡◌, ℕ, ◌+◌, ◌-◌, ◌*◌, ◌<◌, ◌≤◌, true, false, T, map, length, take, IfErr};
+ghost use Rattle.std.specs.Prelude.{◌≡◌, ◌+◌, ◌-◌, ◌*◌, ◌≤◌, false, [], map, length};
 ghost use Rattle.interfaces.specs.Cells.{cell_count, ask_limit, number_of};
-ghost use Rattle.interfaces.specs.Traces.{pairs_of};
-ghost use Rattle.parts.specs.Shown.{view_of};
+ghost use Rattle.parts.specs.Shown.{shown};
+ghost use Rattle.moves.specs.Paths.{path_cells};
 ghost use Rattle.scheduler.specs.Outcomes.{outcome_of};
-ghost use Rattle.scheduler.specs.Moves.{Settles, Follows};
-ghost use Rattle.scheduler.specs.Promise.{Enough, Comes};
+ghost use Rattle.scheduler.specs.Settling.{Leaves, Settles, Follows};
+ghost use Rattle.scheduler.specs.Promise.{Comes};
+ghost use Rattle.scheduler.specs.Lending.{Lends};
 
 pub mod answer;
-mod lists;
-mod moves;
 
-pub use answer::{Answer, Fault, Layer, Ran};
+pub use answer::Answer;
 use interfaces::cell::{ASKS, CELLS, WORK};
-use interfaces::{Cell, Language, Rebuilder, Refusal, Store, Value};
-use lists::{copy_front, put};
-use moves::{Turn, ask_fault, conclude, end_doubt, in_doubt, next_turn, read_stored};
+use interfaces::memory::check_room;
+use interfaces::{Asked, Cell, Language, Rebuilder, Refusal, Store, Value};
+pub use moves::{Fault, Layer, Ran};
+use moves::{AskFault, Path, Report, Turn, check_ask, conclude, in_doubt, next_turn, read_stored};
 use parts::Parts;
 
-// Brings a cell up to date. The path has the cells that are being worked out, `depth` of them.
+// Brings a cell up to date. The path has the cells that are being worked out; a fault leaves them on it.
 #[cycle(follow_settle)]
 fn settle<V: Value, S: Store<V>, L: Language<V>, R: Rebuilder<V>>(
     parts: &mut Parts<S, L, R>,
     cell: Cell,
-    depth: usize,
-    path: &mut [Cell],
-    report: &mut [Ran],
-    ran: &mut usize,
+    path: &mut Path,
+    report: &mut Report<'_>,
     work: &mut [V],
 ) -> Result<V, Fault>
-    requires { (length path.old ≡ cell_count) × ((ran.old ≤ cell_count) × ((depth ≤ cell_count) × ((cell_count - depth) * ask_limit ≤ length work.old))) }
-    ensures most { ran.new ≤ cell_count }
-    ensures short { IfErr result (λ f. f.chain ≤ cell_count) }
-    ensures path { take depth path.new ≡ take depth path.old }
+    requires { (cell_count - length (path_cells path.old)) * ask_limit ≤ length work.old }
+    ensures path { Leaves (path_cells path.old) (path_cells path.new) result }
+    ensures lent { report.new.list.ghost_name ≡ report.old.list.ghost_name }
     ensures settles { Settles V.Value.blank R.Rebuilder.depth
-        (view_of V.Value.canon S.Store.shows S.Store.locked L.Language.means R.Rebuilder.traces parts.old)
-        (view_of V.Value.canon S.Store.shows S.Store.locked L.Language.means R.Rebuilder.traces parts.new)
-        (map number_of (take depth path.old)) (number_of cell) ran.old report.old ran.new report.new
-        (outcome_of V.Value.canon path.new result) }
+        (shown V.Value S.Store L.Language R.Rebuilder parts.old)
+        (shown V.Value S.Store L.Language R.Rebuilder parts.new)
+        (map number_of (path_cells path.old)) (number_of cell)
+        report.old.ran report.old.list.now report.new.ran report.new.list.now (outcome_of V.Value.canon (path_cells path.new) result) }
 {
     if !in_doubt(&parts.table, cell) {
         return Ok(read_stored(&parts.store, cell));
     }
-    if depth >= CELLS {
-        return Err(Fault {
-            number: 16,
-            mark: 0,
-            cell,
-            layer: Layer::Engine,
-            chain: 0,
-        });
+    // no cell is on the path twice, so that this way out is never taken
+    if path.len() >= CELLS {
+        return Err(AskFault::Circle.locate(cell, cell, path.len()));
     }
-    path[depth] = cell;
-    follow(
-        parts,
-        cell,
-        depth + 1,
-        [cell; ASKS],
-        0,
-        false,
-        path,
-        report,
-        ran,
-        work,
-    )
+    path.push(cell);
+    let value = follow(parts, cell, path, report, work)?;
+    path.pop();
+    Ok(value)
 }
 
-// Follows the cell in doubt that is last on the path, after these asked cells and their answers, to its end.
+// Follows the cell in doubt that is last on the path to its end.
 #[cycle(follow_settle)]
 fn follow<V: Value, S: Store<V>, L: Language<V>, R: Rebuilder<V>>(
     parts: &mut Parts<S, L, R>,
     cell: Cell,
-    depth: usize,
-    asked: [Cell; 8],
-    count: usize,
-    running: bool,
-    path: &mut [Cell],
-    report: &mut [Ran],
-    ran: &mut usize,
+    path: &mut Path,
+    report: &mut Report<'_>,
     work: &mut [V],
 ) -> Result<V, Fault>
-    requires { (length path.old ≡ cell_count) × ((ran.old ≤ cell_count) × ((depth ≤ cell_count) × ((count ≤ ask_limit) × ((cell_count - depth) * ask_limit + ask_limit ≤ length work.old)))) }
-    ensures most { ran.new ≤ cell_count }
-    ensures short { IfErr result (λ f. f.chain ≤ cell_count) }
-    ensures path { take depth path.new ≡ take depth path.old }
+    requires { (cell_count - length (path_cells path.old)) * ask_limit + ask_limit ≤ length work.old }
+    ensures path { Leaves (path_cells path.old) (path_cells path.new) result }
+    ensures lent { report.new.list.ghost_name ≡ report.old.list.ghost_name }
     ensures follows { Follows V.Value.blank R.Rebuilder.depth
-        (view_of V.Value.canon S.Store.shows S.Store.locked L.Language.means R.Rebuilder.traces parts.old)
-        (view_of V.Value.canon S.Store.shows S.Store.locked L.Language.means R.Rebuilder.traces parts.new)
-        (map number_of (take depth path.old)) (number_of cell) (pairs_of V.Value.canon (take count asked) (take count work.old)) running
-        ran.old report.old ran.new report.new (outcome_of V.Value.canon path.new result) }
+        (shown V.Value S.Store L.Language R.Rebuilder parts.old)
+        (shown V.Value S.Store L.Language R.Rebuilder parts.new)
+        (map number_of (path_cells path.old)) (number_of cell) [] false
+        report.old.ran report.old.list.now report.new.ran report.new.list.now (outcome_of V.Value.canon (path_cells path.new) result) }
 {
-    let next = next_turn(
-        parts,
-        cell,
-        depth,
-        &asked[0..count],
-        &work[0..count],
-        running,
-    )?;
-    match next {
-        Turn::Keep(value) => {
-            end_doubt(parts, cell, value, asked, count);
-            Ok(value)
-        }
-        Turn::Begin => follow(parts, cell, depth, asked, 0, true, path, report, ran, work),
-        Turn::Give(value) => {
-            conclude(parts, cell, value, asked, count, report, ran, work);
-            Ok(value)
-        }
-        Turn::Ask(wanted) => {
-            match ask_fault(&parts.table, wanted, &path[0..depth], count) {
-                Some(number) => Err(Fault {
-                    number,
-                    mark: wanted.number() as u16,
-                    cell,
-                    layer: Layer::Engine,
-                    chain: depth,
-                }),
-                None => {
-                    let end = work.len();
-                    let value = settle(
-                        parts,
-                        wanted,
-                        depth,
-                        path,
-                        report,
-                        ran,
-                        &mut work[ASKS..end],
-                    )?;
-                    put(work, count, value);
-                    let mut more = asked;
-                    more[count] = wanted;
-                    follow(
-                        parts,
-                        cell,
-                        depth,
-                        more,
-                        count + 1,
-                        running,
-                        path,
-                        report,
-                        ran,
-                        work,
-                    )
-                }
+    let mut asked = Asked::new(&[]);
+    let mut running = false;
+    loop {
+        match next_turn(parts, cell, path.len(), &asked, work, running)? {
+            Turn::Done(value) => {
+                conclude(parts, cell, value, asked, running, report, work);
+                return Ok(value);
+            }
+            Turn::Begin => {
+                asked = Asked::new(&[]);
+                running = true;
+            }
+            Turn::Ask(wanted) => {
+                check_ask(&parts.table, cell, wanted, path, &asked)?;
+                let value = settle(parts, wanted, path, report, &mut work[ASKS..])?;
+                work[asked.len()] = value;
+                asked.push(wanted);
             }
         }
     }
 }
 
-// Whether lists of these lengths suffice for a query.
-fn is_enough(report: usize, chain: usize, work: usize) -> bool
-    ensures yes { T result → Enough (record { report = report; chain = chain; work = work }) }
-    ensures no { result ≡ false → Enough (record { report = report; chain = chain; work = work }) → ⊥ }
+// Refuses lists that do not suffice for a query.
+fn check_lent<V>(report: &[Ran], chain: &[Cell], work: &[V]) -> Result<(), Refusal>
+    ensures { Lends (record { report = length report.now; chain = length chain.now; work = length work.now }) result }
 {
-    if report < CELLS {
-        return false;
-    }
-    if chain < CELLS {
-        return false;
-    }
-    work >= WORK
+    check_room(report, CELLS)?;
+    check_room(chain, CELLS)?;
+    check_room(work, WORK)
 }
 
 /// The value of a cell, or its fault, with the runs that it took in the report list and the chain of a fault in the chain list.
@@ -177,13 +112,13 @@ pub fn query<V: Value, S: Store<V>, L: Language<V>, R: Rebuilder<V>>(
     ensures { Comes V.Value.canon V.Value.blank (S.Store.locked parts.old.store) L.Language.stands R.Rebuilder.depth
         (record {
           cell = number_of cell;
-          lent = record { report = length report.old; chain = length chain.old; work = length work.old };
+          lent = record { report = length report.entry.now; chain = length chain.old; work = length work.old };
           parts_before = parts.old;
           parts_after = parts.new;
-          view_before = view_of V.Value.canon S.Store.shows S.Store.locked L.Language.means R.Rebuilder.traces parts.old;
-          view_after = view_of V.Value.canon S.Store.shows S.Store.locked L.Language.means R.Rebuilder.traces parts.new;
-          report_before = report.old;
-          report_after = report.new;
+          view_before = shown V.Value S.Store L.Language R.Rebuilder parts.old;
+          view_after = shown V.Value S.Store L.Language R.Rebuilder parts.new;
+          report_before = report.entry.now;
+          report_after = report.exit.now;
           chain_before = chain.old;
           chain_after = chain.new;
           work_before = work.old;
@@ -192,22 +127,22 @@ pub fn query<V: Value, S: Store<V>, L: Language<V>, R: Rebuilder<V>>(
 {
     // every cell has a number below CELLS
     let _ = cell.number();
-    if !is_enough(report.len(), chain.len(), work.len()) {
-        return Err(Refusal::ShortMemory);
+    check_lent(report, chain, work)?;
+    // a cell that is not in doubt needs no path
+    if !in_doubt(&parts.table, cell) {
+        return Ok(Answer {
+            outcome: Ok(read_stored(&parts.store, cell)),
+            runs: 0,
+        });
     }
-    let mut path = [cell; CELLS];
-    let mut ran = 0;
-    match settle(parts, cell, 0, &mut path, report, &mut ran, work) {
-        Ok(value) => Ok(Answer {
-            outcome: Ok(value),
-            runs: ran,
-        }),
-        Err(fault) => {
-            copy_front(chain, &path, fault.chain);
-            Ok(Answer {
-                outcome: Err(fault),
-                runs: ran,
-            })
-        }
+    let mut path = Path::new();
+    let mut report = Report::new(report);
+    let outcome = settle(parts, cell, &mut path, &mut report, work);
+    if let Err(fault) = outcome {
+        chain[..fault.chain].copy_from_slice(path.as_slice());
     }
+    Ok(Answer {
+        outcome,
+        runs: report.len(),
+    })
 }

@@ -1,198 +1,163 @@
--- Each way out of the two functions, by what the workbook shows before and after.
-use Rattle.std.proofs.Common.{◌≡◌, ℕ, ◌+◌, ◌<◌, ◌≤◌, List, [], ◌∷◌, ◌++◌, map, length, take, set, IfErr, Some, None, Ok, Err, sym, refl, ap, ◌∙◌, subst, arith, length-append, rules}
+-- Each way out of the two functions, and round the loop, by what the workbook shows before and after.
 use borrow.Rule.Slice.PartMut.{put_mid, post_of}
-use mathlib.Core.Option.{none}
-use native.Mathlib.Nat.{sub-zero}
-use Rattle.std.proofs.lemmas.List.{take_more_set, length-take-le}
+use Rattle.std.proofs.Common.{◌≡◌, ℕ, ◌+◌, ◌-◌, ◌<◌, ◌≤◌, true, false, List, [], ◌∷◌, ◌++◌, map, length, take, set, Err, sym, refl, ap, ◌∙◌, subst, arith, length-append}
+use Rattle.std.proofs.lemmas.List.{map-append, length-map, take_more_set, length-take-le, take_all}
 use Rattle.std.proofs.lemmas.Slice.{take-put_mid_below}
 use Rattle.std.proofs.lemmas.Result.{err_from_is_err_and}
+use Rattle.interfaces.specs.Asks.{asked_cells}
 use Rattle.interfaces.specs.Cells.{cell_count, ask_limit, number_of}
-use Rattle.interfaces.specs.Traces.{pairs_of}
-use Rattle.past.specs.Afresh.{engine, language, fault}
-use Rattle.view.specs.View.{View}
 use Rattle.table.specs.Records.{record_in}
-use Rattle.parts.specs.declared.Parts.{Parts}
-use Rattle.parts.specs.Shown.{view_of}
-use Rattle.scheduler.specs.declared.answer.Layer.TheVariants.{Language}
-use Rattle.scheduler.specs.Outcomes.{outcome_of, layer_of}
-use Rattle.scheduler.specs.Moves.{Follows}
-use Rattle.scheduler.proofs.Lengths.{front_back}
-use Rattle.scheduler.proofs.Reporting.{map_push, length_map, pairs_on}
+use Rattle.moves.specs.Paths.{path_cells}
+use Rattle.scheduler.specs.Outcomes.{outcome_of}
+use Rattle.scheduler.specs.Settling.{Leaves, Settles}
+use Rattle.scheduler.proofs.Lengths.{pushed, popped}
 use Rattle.scheduler.proofs.Codes.{discrete}
+use Rattle.scheduler.proofs.Going as going
+use Rattle.scheduler.proofs.Going.{from_none, few_asked}
 use Rattle.scheduler.proofs.Stepping as steps
-use Rattle.scheduler.proofs.Stepping.{follows_as, turned, ask_faulted}
+use Rattle.scheduler.proofs.+follow_settle.Invariants.{view}
 use Rattle.scheduler.proofs.+follow_settle.Goals as goal
-use Rattle.scheduler.proofs.+follow_settle.Given as given
 
-abbrev view : (g : given.Over) → Parts g.row.S.Denot g.row.L.Denot g.row.R.Denot → View g.row.V.Denot
-view g e = view_of g.V.Value.canon g.S.Store.shows g.S.Store.locked g.L.Language.means g.R.Rebuilder.traces e
-
-placed : {X : Type 0} (xs ys : List X) (n k : ℕ) (w : X) → n < ask_limit → ask_limit ≤ length xs → take (n + 1) (set (put_mid ask_limit k xs ys) n w) ≡ take n xs ++ w ∷ []
-placed xs ys n k w l h =
+-- a value joins the front of the working list, of which the rest was lent on
+placed : {X : Type 0} (xs ys : List X) (n m l k : ℕ) (w : X) → m ≡ n → l ≡ n + 1 → n < ask_limit → ask_limit ≤ length xs → take l (set (put_mid ask_limit k xs ys) m w) ≡ take n xs ++ w ∷ []
+placed xs ys n m l k w e f h r =
     let t = length-append (take ask_limit xs) (ys ++ post_of ask_limit k xs) in
-    let u = length-take-le ask_limit xs h in
-    take_more_set (put_mid ask_limit k xs ys) n w (omega arith) ∙ ap (λ p. p ++ w ∷ []) (take-put_mid_below ask_limit k xs ys n (omega arith) h)
+    let u = length-take-le ask_limit xs r in
+    ap (λ z. take z (set (put_mid ask_limit k xs ys) m w)) f ∙ ap (λ z. take (n + 1) (set (put_mid ask_limit k xs ys) z w)) e
+    ∙ take_more_set (put_mid ask_limit k xs ys) n w (omega arith) ∙ ap (λ p. p ++ w ∷ []) (take-put_mid_below ask_limit k xs ys n (omega arith) r)
 
-pub follow-returns-in_err-next : goal.follow-returns-in_err-next
-follow-returns-in_err-next g t c =
-    let la : length (take c.args.count c.args.asked) ≡ length (take c.args.count c.args.work.now) = let z = sub-zero c.args.count in search rules in
-    let lc : length (take c.args.count c.args.asked) ≡ c.args.count = let z = sub-zero c.args.count in search rules in
-    let f = c.in_err-next.field-0.0 in
-    let u = turned g.V.Value.canon ((view g c.args.parts.now).traces (number_of c.args.cell)) g.V.Value.blank ((view g c.args.parts.now).defs (number_of c.args.cell)) c.args.asked c.args.work.now c.args.running (number_of c.args.cell) c.args.depth c.args.count {t = Err f} {t' = Err f}
-    refl c.in_err-next.ensures in
+pub follow-loop-value-init : goal.follow-loop-value-init
+follow-loop-value-init g t c = record {
+  same_path = refl;
+  lent = refl;
+  joins = λ after ran' list' o f. from_none g.V.Value.blank g.R.Rebuilder.depth g.V.Value.canon (view g c.args.parts.now) after (map number_of (path_cells c.args.path.now)) (number_of c.args.cell)
+      c.new-asked.result c.args.work.now false c.args.report.now.ran c.args.report.now.list.now ran' list' o c.new-asked.ensures f;
+}
+
+pub follow-returns-in_err-value : goal.follow-returns-in_err-value
+follow-returns-in_err-value g t c =
     let q = err_from_is_err_and c.from_residual.result c.from_residual.ensures.1 in
-    let e : c.from_residual.result ≡ Err (record { number = f.fault.number; mark = f.fault.mark; cell = f.cell; layer = Language; chain = f.chain }) = q.1 ∙ ap Err q.2 in
+    let k = going.step_faults g.V.Value.blank g.R.Rebuilder.depth (discrete g.row.V.coded) g.V.Value.canon g.V.Value.alike g.met.V.Value.alike_sound g.met.V.Value.alike_whole g.met.V.Value.steady
+    (view g c.loop-value.parts) (path_cells c.loop-value.path) c.args.cell (g.R.Rebuilder.traces c.loop-value.parts.rebuilder (number_of c.args.cell)) c.loop-value.asked c.loop-value.work c.loop-value.running c.loop-value.report
+    refl (omega (arith, c.loop-value.auto.work, c.requires)) c.len.result
+    (path_cells c.args.path.now) c.in_err-value.field-0.0 c.from_residual.result (q.1 ∙ ap Err q.2) c.len.ensures.count c.in_err-value.ensures in
     record {
-      most = search rules;
-      short = subst (λ z. IfErr z (λ y. y.chain ≤ cell_count)) (sym e) (omega (arith, u.3));
-      path = search rules;
-      follows =
-          follows_as g.V.Value.blank g.R.Rebuilder.depth (view g c.args.parts.now) (view g c.args.parts.now) (map number_of (take c.args.depth c.args.path.now)) (number_of c.args.cell) (pairs_of g.V.Value.canon (take c.args.count c.args.asked) (take c.args.count c.args.work.now)) c.args.running c.args.ran.now c.args.report.now c.args.ran.now c.args.report.now
-          ((λ i. fault f.fault.number f.fault.mark (sym u.2 i) language (map number_of (take (sym u.3 i) c.args.path.now))) ∙ ap (outcome_of g.V.Value.canon c.args.path.now) (sym e))
-          (steps.fails g.V.Value.blank g.R.Rebuilder.depth (discrete g.row.V.coded) g.V.Value.canon (view g c.args.parts.now) (map number_of (take c.args.depth c.args.path.now)) (number_of c.args.cell)
-          (take c.args.count c.args.asked) (take c.args.count c.args.work.now) la c.args.running f.fault.number f.fault.mark c.args.ran.now c.args.report.now u.1);
+      path = k.0;
+      lent = c.loop-value.invariant.lent;
+      follows = c.loop-value.invariant.joins (view g c.loop-value.parts) c.loop-value.report.ran c.loop-value.report.list.now _ k.1;
     }
 
-pub follow-returns-in-Some : goal.follow-returns-in-Some
-follow-returns-in-Some g t c =
-    let la : length (take c.args.count c.args.asked) ≡ length (take c.args.count c.args.work.now) = let z = sub-zero c.args.count in search rules in
-    let lc : length (take c.args.count c.args.asked) ≡ c.args.count = let z = sub-zero c.args.count in search rules in
-    let u = turned g.V.Value.canon ((view g c.args.parts.now).traces (number_of c.args.cell)) g.V.Value.blank ((view g c.args.parts.now).defs (number_of c.args.cell)) c.args.asked c.args.work.now c.args.running (number_of c.args.cell) c.args.depth c.args.count
-    (ap Ok c.in-Ask.is) c.in_ok-next.ensures in
-    let af = ask_faulted c.args.count (length (take c.args.count c.args.asked)) ((view g c.args.parts.now).cause (number_of c.in-Ask.wanted) ≡ none → ⊥) (number_of c.in-Ask.wanted) c.args.depth c.args.path.now (Some c.in-Some.number) (sym lc) c.in-Some.ensures in
+pub follow-returns-in_err-check_ask-in-Ask : goal.follow-returns-in_err-check_ask-in-Ask
+follow-returns-in_err-check_ask-in-Ask g t c =
+    let q = err_from_is_err_and c.from_residual-in_err-check_ask-in-Ask.result c.from_residual-in_err-check_ask-in-Ask.ensures.1 in
+    let k = going.ask_faults g.V.Value.blank g.R.Rebuilder.depth (discrete g.row.V.coded) g.V.Value.canon g.V.Value.alike g.met.V.Value.alike_sound g.met.V.Value.alike_whole g.met.V.Value.steady
+    (view g c.loop-value.parts) (path_cells c.loop-value.path) c.args.cell (g.R.Rebuilder.traces c.loop-value.parts.rebuilder (number_of c.args.cell)) c.loop-value.asked c.loop-value.work c.loop-value.running c.loop-value.report
+    refl (omega (arith, c.loop-value.auto.work, c.requires)) c.len.result
+    (path_cells c.args.path.now) c.in-Ask.wanted c.in_ok-value.field-0 c.in_err-check_ask-in-Ask.field-0.0 c.from_residual-in_err-check_ask-in-Ask.result (q.1 ∙ ap Err q.2) c.in-Ask.is c.in_ok-value.ensures c.in_err-check_ask-in-Ask.ensures in
     record {
-      most = search rules;
-      short = search rules;
-      path = search rules;
-      follows =
-          follows_as g.V.Value.blank g.R.Rebuilder.depth (view g c.args.parts.now) (view g c.args.parts.now) (map number_of (take c.args.depth c.args.path.now)) (number_of c.args.cell) (pairs_of g.V.Value.canon (take c.args.count c.args.asked) (take c.args.count c.args.work.now)) c.args.running c.args.ran.now c.args.report.now c.args.ran.now c.args.report.now
-          (ap (λ z. fault c.in-Some.number z (number_of c.args.cell) engine (map number_of (take c.args.depth c.args.path.now))) (sym c.number.ensures.value))
-          (steps.ask_fails g.V.Value.blank g.R.Rebuilder.depth (discrete g.row.V.coded) g.V.Value.canon (view g c.args.parts.now) (map number_of (take c.args.depth c.args.path.now)) (number_of c.args.cell)
-          (take c.args.count c.args.asked) (take c.args.count c.args.work.now) la c.args.running (number_of c.in-Ask.wanted) c.in-Some.number c.args.ran.now c.args.report.now u af);
+      path = k.0;
+      lent = c.loop-value.invariant.lent;
+      follows = c.loop-value.invariant.joins (view g c.loop-value.parts) c.loop-value.report.ran c.loop-value.report.list.now _ k.1;
     }
 
-pub follow-returns-in_err-value-in-None : goal.follow-returns-in_err-value-in-None
-follow-returns-in_err-value-in-None g t c =
-    let la : length (take c.args.count c.args.asked) ≡ length (take c.args.count c.args.work.now) = let z = sub-zero c.args.count in search rules in
-    let lc : length (take c.args.count c.args.asked) ≡ c.args.count = let z = sub-zero c.args.count in search rules in
-    let u = turned g.V.Value.canon ((view g c.args.parts.now).traces (number_of c.args.cell)) g.V.Value.blank ((view g c.args.parts.now).defs (number_of c.args.cell)) c.args.asked c.args.work.now c.args.running (number_of c.args.cell) c.args.depth c.args.count
-    (ap Ok c.in-Ask.is) c.in_ok-next.ensures in
-    let af = ask_faulted c.args.count (length (take c.args.count c.args.asked)) ((view g c.args.parts.now).cause (number_of c.in-Ask.wanted) ≡ none → ⊥) (number_of c.in-Ask.wanted) c.args.depth c.args.path.now None (sym lc) c.in-None.ensures in
-    let f = c.in_err-value-in-None.field-0.0 in
-    let q = err_from_is_err_and c.from_residual-in_err-value-in-None.result c.from_residual-in_err-value-in-None.ensures.1 in
-    let e : c.from_residual-in_err-value-in-None.result ≡ Err f = q.1 ∙ ap Err q.2 in
-    let s = c.settle.ensures in
+pub follow-returns-in_err-value-in-Ask : goal.follow-returns-in_err-value-in-Ask
+follow-returns-in_err-value-in-Ask g t c =
+    let q = err_from_is_err_and c.from_residual-in_err-value-in-Ask.result c.from_residual-in_err-value-in-Ask.ensures.1 in
+    let s = c.in_err-value-in-Ask.ensures in
+    let k = going.below_faults g.V.Value.blank g.R.Rebuilder.depth (discrete g.row.V.coded) g.V.Value.canon g.V.Value.alike g.met.V.Value.alike_sound g.met.V.Value.alike_whole g.met.V.Value.steady
+    (view g c.loop-value.parts) (path_cells c.loop-value.path) c.args.cell (g.R.Rebuilder.traces c.loop-value.parts.rebuilder (number_of c.args.cell)) c.loop-value.asked c.loop-value.work c.loop-value.running c.loop-value.report
+    refl (omega (arith, c.loop-value.auto.work, c.requires)) c.len.result
+    (path_cells c.args.path.now) c.in-Ask.wanted c.in_ok-value.field-0 (view g c.settle.new.parts) (path_cells c.settle.new.path) c.settle.new.report c.in_err-value-in-Ask.field-0.0 c.from_residual-in_err-value-in-Ask.result (q.1 ∙ ap Err q.2)
+    c.in-Ask.is c.in_ok-value.ensures c.in_ok-check_ask-in-Ask.ensures s.path s.settles in
     record {
-      most = s.most;
-      short = search rules;
-      path = s.path;
-      follows =
-          follows_as g.V.Value.blank g.R.Rebuilder.depth (view g c.args.parts.now) (view g c.settle.new.parts) (map number_of (take c.args.depth c.args.path.now)) (number_of c.args.cell) (pairs_of g.V.Value.canon (take c.args.count c.args.asked) (take c.args.count c.args.work.now)) c.args.running c.args.ran.now c.args.report.now c.settle.new.ran c.settle.new.report
-          (ap (outcome_of g.V.Value.canon c.settle.new.path) (sym e))
-          (steps.sinks g.V.Value.blank g.R.Rebuilder.depth (discrete g.row.V.coded) g.V.Value.canon (view g c.args.parts.now) (map number_of (take c.args.depth c.args.path.now)) (number_of c.args.cell)
-          (take c.args.count c.args.asked) (take c.args.count c.args.work.now) la c.args.running (number_of c.in-Ask.wanted) (view g c.settle.new.parts) c.args.ran.now c.args.report.now c.settle.new.ran c.settle.new.report
-          f.number f.mark (number_of f.cell) (layer_of f.layer) (map number_of (take f.chain c.settle.new.path)) u af.0 af.1 c.in_err-value-in-None.ensures.settles);
+      path = k.0;
+      lent = s.lent ∙ c.loop-value.invariant.lent;
+      follows = c.loop-value.invariant.joins (view g c.settle.new.parts) c.settle.new.report.ran c.settle.new.report.list.now _ k.1;
     }
 
-pub follow-returns-in-Keep : goal.follow-returns-in-Keep
-follow-returns-in-Keep g t c =
-    let la : length (take c.args.count c.args.asked) ≡ length (take c.args.count c.args.work.now) = let z = sub-zero c.args.count in search rules in
-    let lc : length (take c.args.count c.args.asked) ≡ c.args.count = let z = sub-zero c.args.count in search rules in
-    let u = turned g.V.Value.canon ((view g c.args.parts.now).traces (number_of c.args.cell)) g.V.Value.blank ((view g c.args.parts.now).defs (number_of c.args.cell)) c.args.asked c.args.work.now c.args.running (number_of c.args.cell) c.args.depth c.args.count
-    (ap Ok c.in-Keep.is) c.in_ok-next.ensures in
-    record {
-      most = search rules;
-      short = search rules;
-      path = search rules;
-      follows =
-          steps.kept g.V.Value.blank g.R.Rebuilder.depth (discrete g.row.V.coded) g.V.Value.canon (view g c.args.parts.now) (map number_of (take c.args.depth c.args.path.now)) (number_of c.args.cell)
-          (take c.args.count c.args.asked) (take c.args.count c.args.work.now) la c.args.running c.in-Keep.value (view g c.end_doubt.new.parts) c.args.ran.now c.args.report.now u.1 c.end_doubt.ensures;
-    }
+pub follow-returns-in-Done : goal.follow-returns-in-Done
+follow-returns-in-Done g t c = record {
+  path = c.loop-value.invariant.same_path;
+  lent = c.conclude.ensures.report.lent ∙ c.loop-value.invariant.lent;
+  follows = c.loop-value.invariant.joins (view g c.conclude.new.parts) c.conclude.new.report.ran c.conclude.new.report.list.now _
+      (going.finishes g.V.Value.blank g.R.Rebuilder.depth (discrete g.row.V.coded) g.V.Value.canon g.V.Value.alike g.met.V.Value.alike_sound g.met.V.Value.alike_whole g.met.V.Value.steady
+      (view g c.loop-value.parts) (path_cells c.loop-value.path) c.args.cell (g.R.Rebuilder.traces c.loop-value.parts.rebuilder (number_of c.args.cell)) c.loop-value.asked c.loop-value.work c.loop-value.running c.loop-value.report
+      refl (omega (arith, c.loop-value.auto.work, c.requires)) c.len.result
+      c.in-Done.value c.in_ok-value.field-0 (view g c.conclude.new.parts) c.conclude.new.report (record_in c.loop-value.parts.table (number_of c.args.cell)).cause
+      c.in-Done.is c.in_ok-value.ensures refl c.conclude.ensures.concludes c.conclude.ensures.report);
+}
 
-pub follow-returns-in-Begin : goal.follow-returns-in-Begin
-follow-returns-in-Begin g t c =
-    let la : length (take c.args.count c.args.asked) ≡ length (take c.args.count c.args.work.now) = let z = sub-zero c.args.count in search rules in
-    let lc : length (take c.args.count c.args.asked) ≡ c.args.count = let z = sub-zero c.args.count in search rules in
-    let u = turned g.V.Value.canon ((view g c.args.parts.now).traces (number_of c.args.cell)) g.V.Value.blank ((view g c.args.parts.now).defs (number_of c.args.cell)) c.args.asked c.args.work.now c.args.running (number_of c.args.cell) c.args.depth c.args.count
-    (ap Ok c.in-Begin.is) c.in_ok-next.ensures in
-    let q = c.follow.ensures in
-    record {
-      most = q.most;
-      short = q.short;
-      path = q.path;
-      follows =
-          steps.begun g.V.Value.blank g.R.Rebuilder.depth (discrete g.row.V.coded) g.V.Value.canon (view g c.args.parts.now) (map number_of (take c.args.depth c.args.path.now)) (number_of c.args.cell)
-          (take c.args.count c.args.asked) (take c.args.count c.args.work.now) la c.args.running (view g c.follow.new.parts) c.args.ran.now c.args.report.now c.follow.new.ran c.follow.new.report _ u.1 q.follows;
-    }
+pub follow-loop-value-preserved-in-Begin : goal.follow-loop-value-preserved-in-Begin
+follow-loop-value-preserved-in-Begin g t c = record {
+  same_path = c.loop-value.invariant.same_path;
+  lent = c.loop-value.invariant.lent;
+  joins = λ after ran' list' o f. c.loop-value.invariant.joins after ran' list' o
+      (going.begins_anew g.V.Value.blank g.R.Rebuilder.depth (discrete g.row.V.coded) g.V.Value.canon g.V.Value.alike g.met.V.Value.alike_sound g.met.V.Value.alike_whole g.met.V.Value.steady
+      (view g c.loop-value.parts) (path_cells c.loop-value.path) c.args.cell (g.R.Rebuilder.traces c.loop-value.parts.rebuilder (number_of c.args.cell)) c.loop-value.asked c.loop-value.work c.loop-value.running c.loop-value.report
+      refl (omega (arith, c.loop-value.auto.work, c.requires)) c.len.result
+      c.in_ok-value.field-0 after ran' list' o c.in-Begin.is c.in_ok-value.ensures
+      (from_none g.V.Value.blank g.R.Rebuilder.depth g.V.Value.canon (view g c.loop-value.parts) after (map number_of (path_cells c.loop-value.path)) (number_of c.args.cell)
+      c.new-asked-in-Begin.result c.loop-value.work true c.loop-value.report.ran c.loop-value.report.list.now ran' list' o c.new-asked-in-Begin.ensures f));
+}
 
-pub follow-returns-in-Give : goal.follow-returns-in-Give
-follow-returns-in-Give g t c =
-    let la : length (take c.args.count c.args.asked) ≡ length (take c.args.count c.args.work.now) = let z = sub-zero c.args.count in search rules in
-    let lc : length (take c.args.count c.args.asked) ≡ c.args.count = let z = sub-zero c.args.count in search rules in
-    let u = turned g.V.Value.canon ((view g c.args.parts.now).traces (number_of c.args.cell)) g.V.Value.blank ((view g c.args.parts.now).defs (number_of c.args.cell)) c.args.asked c.args.work.now c.args.running (number_of c.args.cell) c.args.depth c.args.count
-    (ap Ok c.in-Give.is) c.in_ok-next.ensures in
+pub follow-loop-value-preserved : goal.follow-loop-value-preserved
+follow-loop-value-preserved g t c =
+    let s = c.in_ok-value-in-Ask.ensures in
+    let k = c.in_ok-check_ask-in-Ask.ensures in
+    let xa = pushed ask_limit (asked_cells c.loop-value.asked) (asked_cells c.push.new.self) c.in-Ask.wanted c.push.ensures k.0 in
+    let xw = placed c.loop-value.work c.settle.new.work (length (asked_cells c.loop-value.asked)) c.len-in-Ask.result (length (asked_cells c.push.new.self)) (length c.loop-value.work - ask_limit) c.in_ok-value-in-Ask.value
+    c.len-in-Ask.ensures.count (ap length xa ∙ length-append (asked_cells c.loop-value.asked) (c.in-Ask.wanted ∷ [])) k.0 (omega (arith, c.loop-value.auto.work, c.requires)) in
     record {
-      most = search rules;
-      short = search rules;
-      path = search rules;
-      follows =
-          subst (λ b. Follows g.V.Value.blank g.R.Rebuilder.depth (view g c.args.parts.now) (view g c.conclude.new.parts) (map number_of (take c.args.depth c.args.path.now)) (number_of c.args.cell) (pairs_of g.V.Value.canon (take c.args.count c.args.asked) (take c.args.count c.args.work.now)) b c.args.ran.now c.args.report.now c.conclude.new.ran c.conclude.new.report (outcome_of g.V.Value.canon c.args.path.now (Ok c.in-Give.value))) (sym u.0)
-          (steps.given g.V.Value.blank g.R.Rebuilder.depth (discrete g.row.V.coded) g.V.Value.canon (view g c.args.parts.now) (map number_of (take c.args.depth c.args.path.now)) (number_of c.args.cell)
-          (take c.args.count c.args.asked) (take c.args.count c.args.work.now) la c.args.cell c.in-Give.value (view g c.conclude.new.parts) c.args.ran.now c.args.report.now c.conclude.new.ran c.conclude.new.report (record_in c.args.parts.now.table (number_of c.args.cell)).cause refl refl u.1 c.conclude.ensures.concludes c.conclude.ensures.reports);
-    }
-
-pub follow-returns-in_ok-value-in-None : goal.follow-returns-in_ok-value-in-None
-follow-returns-in_ok-value-in-None g t c =
-    let la : length (take c.args.count c.args.asked) ≡ length (take c.args.count c.args.work.now) = let z = sub-zero c.args.count in search rules in
-    let lc : length (take c.args.count c.args.asked) ≡ c.args.count = let z = sub-zero c.args.count in search rules in
-    let u = turned g.V.Value.canon ((view g c.args.parts.now).traces (number_of c.args.cell)) g.V.Value.blank ((view g c.args.parts.now).defs (number_of c.args.cell)) c.args.asked c.args.work.now c.args.running (number_of c.args.cell) c.args.depth c.args.count
-    (ap Ok c.in-Ask.is) c.in_ok-next.ensures in
-    let q = c.follow-in-None.ensures in
-    let s = c.settle.ensures in
-    let af = ask_faulted c.args.count (length (take c.args.count c.args.asked)) ((view g c.args.parts.now).cause (number_of c.in-Ask.wanted) ≡ none → ⊥) (number_of c.in-Ask.wanted) c.args.depth c.args.path.now None (sym lc) c.in-None.ensures in
-    let sh : c.args.count < ask_limit = omega (arith, af.0, lc) in
-    let xa : take (c.args.count + 1) (set c.args.asked c.args.count c.in-Ask.wanted) ≡ (take c.args.count c.args.asked) ++ (c.in-Ask.wanted ∷ []) = take_more_set c.args.asked c.args.count c.in-Ask.wanted (search rules) in
-    let xw = placed c.args.work.now c.settle.new.work c.args.count _ c.in_ok-value-in-None.value sh (omega (arith, c.requires.1.1.1.1)) in
-    record {
-      most = q.most;
-      short = q.short;
-      path = q.path ∙ s.path;
-      follows =
-          steps.goes_on g.V.Value.blank g.R.Rebuilder.depth (discrete g.row.V.coded) g.V.Value.canon (view g c.args.parts.now) (map number_of (take c.args.depth c.args.path.now)) (number_of c.args.cell)
-          (take c.args.count c.args.asked) (take c.args.count c.args.work.now) la c.args.running (number_of c.in-Ask.wanted) c.in_ok-value-in-None.value (view g c.settle.new.parts) (view g c.follow-in-None.new.parts) c.args.ran.now c.args.report.now c.settle.new.ran c.settle.new.report c.follow-in-None.new.ran c.follow-in-None.new.report _ _ _
-          u af.0 af.1 c.in_ok-value-in-None.ensures.settles (ap (map number_of) c.settle.ensures.path)
-          (pairs_on g.V.Value.canon (take c.args.count c.args.asked) (take c.args.count c.args.work.now) c.in-Ask.wanted c.in_ok-value-in-None.value xa (ap (take (c.args.count + 1)) c.put.ensures ∙ xw) la)
-          q.follows;
+      same_path = s.path ∙ c.loop-value.invariant.same_path;
+      lent = s.lent ∙ c.loop-value.invariant.lent;
+      joins = λ after ran' list' o f. c.loop-value.invariant.joins after ran' list' o
+          (going.goes_on g.V.Value.blank g.R.Rebuilder.depth (discrete g.row.V.coded) g.V.Value.canon g.V.Value.alike g.met.V.Value.alike_sound g.met.V.Value.alike_whole g.met.V.Value.steady
+          (view g c.loop-value.parts) (path_cells c.loop-value.path) c.args.cell (g.R.Rebuilder.traces c.loop-value.parts.rebuilder (number_of c.args.cell)) c.loop-value.asked c.loop-value.work c.loop-value.running c.loop-value.report
+          refl (omega (arith, c.loop-value.auto.work, c.requires)) c.len.result
+          c.in-Ask.wanted c.in_ok-value.field-0 c.in_ok-value-in-Ask.value (view g c.settle.new.parts) after c.settle.new.report ran' list' o (path_cells c.settle.new.path) (asked_cells c.push.new.self) _
+          c.in-Ask.is c.in_ok-value.ensures k s.settles s.path xa xw f);
     }
 
 pub settle-returns-then-not-in_doubt : goal.settle-returns-then-not-in_doubt
-settle-returns-then-not-in_doubt g t c =
-    record {
-      most = search rules;
-      short = search rules;
-      path = search rules;
-      settles =
-          steps.settled_read g.V.Value.blank g.R.Rebuilder.depth (discrete g.row.V.coded) (view g c.args.parts.now) (map number_of (take c.args.depth c.args.path.now)) (number_of c.args.cell) (g.V.Value.canon c.read_stored.result) c.args.ran.now c.args.report.now c.read_stored.ensures (c.if-not-in_doubt.ensures.no refl);
-    }
+settle-returns-then-not-in_doubt g t c = record {
+  path = refl;
+  lent = refl;
+  settles = steps.settled_read g.V.Value.blank g.R.Rebuilder.depth (discrete g.row.V.coded) (view g c.args.parts.now) (map number_of (path_cells c.args.path.now)) (number_of c.args.cell)
+      (g.V.Value.canon c.read_stored.result) c.args.report.now.ran c.args.report.now.list.now c.read_stored.ensures (c.if-not-in_doubt.ensures.no refl);
+}
 
-pub settle-returns-then-depth-ge-CELLS : goal.settle-returns-then-depth-ge-CELLS
-settle-returns-then-depth-ge-CELLS g t c =
+pub settle-returns-then-len-ge-CELLS : goal.settle-returns-then-len-ge-CELLS
+settle-returns-then-len-ge-CELLS g t c = record {
+  path = ap (λ z. z.chain) c.locate.ensures ∙ c.len-then-len-ge-CELLS.ensures.count;
+  lent = refl;
+  settles = steps.too_deep g.V.Value.blank g.R.Rebuilder.depth (discrete g.row.V.coded) (view g c.args.parts.now) (map number_of (path_cells c.args.path.now)) (number_of c.args.cell)
+      (view g c.args.parts.now) c.args.report.now.ran c.args.report.now.list.now c.args.report.now.ran c.args.report.now.list.now _
+      (omega (arith, length-map (path_cells c.args.path.now) number_of, c.len.ensures.count, c.if-len-ge-CELLS.true)) (c.if-not-in_doubt.ensures.yes tt);
+}
+
+pub settle-returns-in_err-value : goal.settle-returns-in_err-value
+settle-returns-in_err-value g t c =
+    let q = err_from_is_err_and c.from_residual.result c.from_residual.ensures.1 in
+    let s = c.in_err-value.ensures in
+    let u = pushed cell_count (path_cells c.args.path.now) (path_cells c.push.new.self) c.args.cell c.push.ensures.cells (omega (arith, c.len.ensures.count, c.if-len-ge-CELLS.false)) in
     record {
-      most = search rules;
-      short = search rules;
-      path = search rules;
-      settles =
-          steps.too_deep g.V.Value.blank g.R.Rebuilder.depth (discrete g.row.V.coded) (view g c.args.parts.now) (map number_of (take c.args.depth c.args.path.now)) (number_of c.args.cell) (view g c.args.parts.now) c.args.ran.now c.args.report.now c.args.ran.now c.args.report.now _ (omega (arith, length_map number_of (take c.args.depth c.args.path.now), length-take-le c.args.depth c.args.path.now (omega arith))) (c.if-not-in_doubt.ensures.yes tt);
+      path = subst (Leaves (path_cells c.args.path.now) (path_cells c.follow.new.path)) (sym (q.1 ∙ ap Err q.2)) s.path;
+      lent = s.lent;
+      settles = subst (λ z. Settles g.V.Value.blank g.R.Rebuilder.depth (view g c.args.parts.now) (view g c.follow.new.parts) (map number_of (path_cells c.args.path.now)) (number_of c.args.cell)
+          c.args.report.now.ran c.args.report.now.list.now c.follow.new.report.ran c.follow.new.report.list.now (outcome_of g.V.Value.canon (path_cells c.follow.new.path) z)) (sym (q.1 ∙ ap Err q.2))
+          (steps.settled_follow g.V.Value.blank g.R.Rebuilder.depth (discrete g.row.V.coded) (view g c.args.parts.now) (map number_of (path_cells c.args.path.now)) (number_of c.args.cell) (view g c.follow.new.parts) _
+          c.args.report.now.ran c.args.report.now.list.now c.follow.new.report.ran c.follow.new.report.list.now _ (c.if-not-in_doubt.ensures.yes tt)
+          (ap (map number_of) u ∙ map-append number_of (path_cells c.args.path.now) (c.args.cell ∷ [])) s.follows);
     }
 
 pub settle-returns : goal.settle-returns
 settle-returns g t c =
-    let q = c.follow.ensures in
+    let s = c.in_ok-value.ensures in
+    let u = pushed cell_count (path_cells c.args.path.now) (path_cells c.push.new.self) c.args.cell c.push.ensures.cells (omega (arith, c.len.ensures.count, c.if-len-ge-CELLS.false)) in
     record {
-      most = q.most;
-      short = q.short;
-      path = front_back c.follow.new.path c.args.path.now c.args.depth c.args.cell q.path;
-      settles =
-          steps.settled_follow g.V.Value.blank g.R.Rebuilder.depth (discrete g.row.V.coded) (view g c.args.parts.now) (map number_of (take c.args.depth c.args.path.now)) (number_of c.args.cell) (view g c.follow.new.parts) _ c.args.ran.now c.args.report.now c.follow.new.ran c.follow.new.report _ (c.if-not-in_doubt.ensures.yes tt)
-          (ap (map number_of) (take_more_set c.args.path.now c.args.depth c.args.cell (omega arith)) ∙ map_push number_of (take c.args.depth c.args.path.now) c.args.cell) q.follows;
+      path = popped (path_cells c.args.path.now) (path_cells c.follow.new.path) (path_cells c.pop.new.self) c.args.cell (s.path ∙ u) c.pop.ensures;
+      lent = s.lent;
+      settles = steps.settled_follow g.V.Value.blank g.R.Rebuilder.depth (discrete g.row.V.coded) (view g c.args.parts.now) (map number_of (path_cells c.args.path.now)) (number_of c.args.cell) (view g c.follow.new.parts) _
+          c.args.report.now.ran c.args.report.now.list.now c.follow.new.report.ran c.follow.new.report.list.now _ (c.if-not-in_doubt.ensures.yes tt)
+          (ap (map number_of) u ∙ map-append number_of (path_cells c.args.path.now) (c.args.cell ∷ [])) s.follows;
     }
