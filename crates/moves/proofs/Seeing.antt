@@ -2,6 +2,7 @@
 use Rattle.std.proofs.Common.{◌≡◌, ℕ, zero, suc, Bool, true, false, cond, eqb, leb, List, [], ◌∷◌, map, length, take, None, Ok, Err, sym, refl, ap, ◌∙◌, subst}
 use mathlib.Core.Option.{Option}
 use native.Mathlib.Decide.{ℕ_discrete}
+use Rattle.std.proofs.lemmas.List.{take-map}
 use Rattle.interfaces.specs.declared.asked.Asked.{Asked}
 use Rattle.interfaces.specs.declared.cell.Cell.{Cell}
 use Rattle.interfaces.specs.Asks.{asked_cells}
@@ -30,7 +31,7 @@ seen canon shows locked means traces rows = record {
 }
 
 -- `but` and `changed` are one
-but_changed : {A : Type 0} (x : ℕ) (a : A) (f : ℕ → A) (k : ℕ) → but x a f k ≡ changed x a f k
+pub but_changed : {A : Type 0} (x : ℕ) (a : A) (f : ℕ → A) (k : ℕ) → but x a f k ≡ changed x a f k
 unfolding changed
 but_changed x a f k = refl
 
@@ -77,11 +78,6 @@ module _ {V : Type 0} (canon : V → V) (shows shows' : ℕ → V) (locked locke
       rows_are : (k : ℕ) → rows' k ≡ changed x new rows k
       rows_are k = rs k ∙ but_changed x new rows k
 
-map_take : {A B : Type 0} (f : A → B) (n : ℕ) (xs : List A) → map f (take n xs) ≡ take n (map f xs)
-map_take f zero xs = refl
-map_take f (suc n) [] = refl
-map_take f (suc n) (x ∷ xs) = ap (λ z. f x ∷ z) (map_take f n xs)
-
 module _ {V : Type 0} (canon : V → V) (steady : (x : V) → canon (canon x) ≡ canon x) where
   plain_pairs : (cs : List Cell) (vs : List V) → map (plain_pair canon) (pairs_of canon cs vs) ≡ pairs_of canon cs vs
   plain_pairs [] vs = refl
@@ -101,7 +97,7 @@ module _ {V : Type 0} (canon : V → V) (steady : (x : V) → canon (canon x) �
       let t : Trace V = record { asks = pairs_of canon cs vs; result = canon v } in
       ap (map (plain_trace canon)) (but_changed x (take depth (t ∷ traces x)) traces k)
       ∙ changed_map (map (plain_trace canon)) x (take depth (t ∷ traces x)) traces k
-      ∙ ap (λ z. changed x z (λ y. map (plain_trace canon) (traces y)) k) (map_take (plain_trace canon) depth (t ∷ traces x) ∙ ap (λ z. take depth (z ∷ map (plain_trace canon) (traces x))) (plain_trace_lem cs vs v))
+      ∙ ap (λ z. changed x z (λ y. map (plain_trace canon) (traces y)) k) (sym (take-map (plain_trace canon) depth (t ∷ traces x)) ∙ ap (λ z. take depth (z ∷ map (plain_trace canon) (traces x))) (plain_trace_lem cs vs v))
       ∙ sym (but_changed x (take depth (t ∷ map (plain_trace canon) (traces x))) (λ y. map (plain_trace canon) (traces y)) k)
 
   -- a recording, and then a value

@@ -1,7 +1,8 @@
 -- A query, by the settling of its cell.
 use Rattle.std.proofs.Common.{◌≡◌, ℕ, ◌<◌, ◌≤◌, Bool, ◌⊎◌, List, [], ◌∷◌, ◌++◌, map, length, take, drop, Ok, Err, sym, refl, ap, ◌∙◌, subst, inl, inr, arith, take_all}
 use native.Mathlib.Decide.{dec_lt}
-use Rattle.std.proofs.lemmas.List.{length-take, length-take-le}
+use Rattle.std.proofs.Math.Seq.{take-append_seam, drop-append_seam}
+use Rattle.std.proofs.lemmas.List.{length-map, length-take}
 use Rattle.interfaces.specs.declared.cell.Cell.{Cell}
 use Rattle.interfaces.specs.declared.refusal.Refusal.{Refusal}
 use Rattle.interfaces.specs.Cells.{cell_count, work_length, number_of}
@@ -21,8 +22,6 @@ use Rattle.scheduler.specs.declared.answer.Answer.{Answer}
 use Rattle.scheduler.specs.Outcomes.{outcome_of, layer_of, chain_in, ran_entry, run_entry, Listed}
 use Rattle.scheduler.specs.Settling.{Settles}
 use Rattle.scheduler.specs.Promise.{Enough, Setting, Queried, Refused, Answered}
-use Rattle.scheduler.proofs.Lengths.{front_is, rest_is}
-use Rattle.scheduler.proofs.Reporting.{length_map}
 
 pub few_cells : (p : Path) → length (path_cells p) ≤ cell_count
 few_cells p = omega (arith, p.short, length-take p.len p.cells)
@@ -119,18 +118,18 @@ module _ {P V : Type 0} (canon : V → V) (blank : V) (locks : ℕ → Bool) (st
         listed = counted_front a.listed;
         report_rest = counted_rest a.listed;
         chained = ap (λ z. map number_of (take z q.chain_after)) size ∙ ap (map number_of) front;
-        chain_rest = ap (λ z. drop z q.chain_after) size ∙ ap (drop f.chain) e ∙ rest_is q.chain_before path f.chain n n' ∙ ap (λ z. drop z q.chain_before) (sym size);
+        chain_rest = ap (λ z. drop z q.chain_after) size ∙ rest ∙ ap (λ z. drop z q.chain_before) (sym size);
       };
     }
       where
-        n : f.chain ≤ length path
-        n = omega (arith, m)
-
-        e : q.chain_after ≡ take f.chain path ++ drop f.chain q.chain_before
-        e = k ∙ ap (λ z. z ++ drop f.chain q.chain_before) (sym (take_all f.chain path (omega (arith, m))))
+        whole : take f.chain path ≡ path
+        whole = take_all f.chain path (omega (arith, m))
 
         front : take f.chain q.chain_after ≡ take f.chain path
-        front = ap (take f.chain) e ∙ front_is q.chain_before path f.chain n
+        front = ap (take f.chain) k ∙ ap (λ n. take n (path ++ drop f.chain q.chain_before)) m ∙ take-append_seam path (drop f.chain q.chain_before) ∙ sym whole
+
+        rest : drop f.chain q.chain_after ≡ drop f.chain q.chain_before
+        rest = ap (drop f.chain) k ∙ ap (λ n. drop n (path ++ drop f.chain q.chain_before)) m ∙ drop-append_seam path (drop f.chain q.chain_before)
 
         size : length (map number_of (take f.chain path)) ≡ f.chain
-        size = length_map number_of (take f.chain path) ∙ length-take-le f.chain path n
+        size = length-map (take f.chain path) number_of ∙ ap length whole ∙ sym m

@@ -1,6 +1,7 @@
 -- The report list, and pairs of cells and values.
 use Rattle.std.proofs.Common.{◌≡◌, ℕ, suc, ◌+◌, ◌<◌, ◌≤◌, List, [], ◌∷◌, ◌++◌, map, length, take, drop, Some, sym, refl, ap, ◌∙◌, subst, append-nil, arith, length-append, length-set}
-use Rattle.std.proofs.lemmas.List.{take_more_set, drop-set-lt, length-take-le}
+use Rattle.std.proofs.lemmas.List.{take_more_set, drop-set-lt, map-append}
+use Rattle.std.proofs.lemmas.Grind.{drop_more_same}
 use Rattle.std.proofs.lemmas.Bool.{cond_below}
 use Rattle.interfaces.specs.declared.cell.Cell.{Cell}
 use Rattle.interfaces.specs.Cells.{cell_count, number_of}
@@ -10,15 +11,6 @@ use Rattle.past.specs.Past.{Run, cells}
 use Rattle.moves.specs.declared.answer.Ran.{Ran}
 use Rattle.moves.specs.Moves.{count_after, list_after}
 use Rattle.scheduler.specs.Outcomes.{ran_entry, run_entry, Listed}
-use Rattle.scheduler.proofs.Lengths.{drop_next}
-
-pub map_push : {A B : Type 0} (f : A → B) (xs : List A) (y : A) → map f (xs ++ (y ∷ [])) ≡ map f xs ++ (f y ∷ [])
-map_push f [] y = refl
-map_push f (x ∷ xs) y = ap (λ z. f x ∷ z) (map_push f xs y)
-
-pub length_map : {A B : Type 0} (f : A → B) (xs : List A) → length (map f xs) ≡ length xs
-length_map f [] = refl
-length_map f (x ∷ xs) = ap suc (length_map f xs)
 
 module _ {V : Type 0} where
   pub listed_same : {r r' : List (Run V)} {ran : ℕ} {list first : List Ran} → r ≡ r' → Listed r ran list first → Listed r' ran list first
@@ -36,9 +28,9 @@ module _ {V : Type 0} where
       let q : ran' ≡ ran + 1 = counts ∙ sym (cond_below ran (length list) (ran + 1) ran here) in
       record {
         count_is = omega (arith, q, k.count_is, length-append r (a ∷ []));
-        front_is = ap (λ z. map ran_entry (take z list')) (q) ∙ ap (λ z. map ran_entry (take (ran + 1) z)) (lists) ∙ ap (map ran_entry) (take_more_set list ran y here) ∙ map_push ran_entry (take ran list) y
-            ∙ ap (λ z. z ++ (ran_entry y ∷ [])) k.front_is ∙ ap (λ z. map run_entry r ++ (z ∷ [])) same ∙ sym (map_push run_entry r a);
-        rest_is = ap (λ z. drop z list') (q) ∙ ap (drop (ran + 1)) (lists) ∙ drop-set-lt (ran + 1) list ran y (omega arith) ∙ drop_next ran list first k.rest_is k.length_is ∙ ap (λ z. drop z first) (sym (q));
+        front_is = ap (λ z. map ran_entry (take z list')) (q) ∙ ap (λ z. map ran_entry (take (ran + 1) z)) (lists) ∙ ap (map ran_entry) (take_more_set list ran y here) ∙ map-append ran_entry (take ran list) (y ∷ [])
+            ∙ ap (λ z. z ++ (ran_entry y ∷ [])) k.front_is ∙ ap (λ z. map run_entry r ++ (z ∷ [])) same ∙ sym (map-append run_entry r (a ∷ []));
+        rest_is = ap (λ z. drop z list') (q) ∙ ap (drop (ran + 1)) (lists) ∙ drop-set-lt (ran + 1) list ran y (omega arith) ∙ drop_more_same list first ran k.rest_is ∙ ap (λ z. drop z first) (sym (q));
         length_is = ap length (lists) ∙ length-set list ran y ∙ k.length_is;
         room = k.room;
       }
@@ -70,7 +62,3 @@ module _ {V : Type 0} (canon : V → V) where
   pub pairs_on : {xs : List Cell} {ys : List V} (cs : List Cell) (vs : List V) (a : Cell) (v : V) → xs ≡ cs ++ (a ∷ []) → ys ≡ vs ++ (v ∷ []) → length cs ≡ length vs
       → pairs_of canon xs ys ≡ pairs_of canon cs vs ++ (record { cell = number_of a; value = canon v } ∷ [])
   pairs_on {ys = ys} cs vs a v e f n = ap (λ z. pairs_of canon z ys) e ∙ ap (λ z. pairs_of canon (cs ++ (a ∷ [])) z) f ∙ pairs_push cs vs a v n
-
--- fronts of equal length
-pub front_lengths : {A B : Type 0} (n : ℕ) (xs : List A) (ys : List B) → n ≤ length xs → n ≤ length ys → length (take n xs) ≡ length (take n ys)
-front_lengths n xs ys h k = length-take-le n xs h ∙ sym (length-take-le n ys k)

@@ -9,6 +9,7 @@ use Rattle.interfaces.specs.Traces.{Pair, Trace, Planned, runs, keeps, next, pla
 use Rattle.past.specs.Past.{changed}
 use Rattle.midway.specs.Planning.{Plans, plain_trace}
 use Rattle.midway.proofs.Planning.{planned_for}
+use Rattle.moves.proofs.Seeing.{but_changed}
 use Rattle.moves.specs.declared.answer.Fault.{Fault}
 use Rattle.moves.specs.declared.answer.Layer.TheVariants.{Language}
 use Rattle.moves.specs.declared.turns.Turn.{Turn}
@@ -100,10 +101,6 @@ module _ {V : Type 0} (canon : V → V) (alike : V → V → Bool) (sound : (x y
   pub fails_is : (running : Bool) (f : Fault) → Moves running (Err f) → (step ≡ faults f.number f.mark) × (f ≡ record { number = f.number; mark = f.mark; cell = cell; layer = Language; chain = chain })
   fails_is true f e = step_fails cell chain step f e
   fails_is false f e = absurd (plan_fails (plan_for canon alike ts cs vs) f e)
-
-but_changed : {A : Type 0} (x : ℕ) (a : A) (f : ℕ → A) (k : ℕ) → but x a f k ≡ changed x a f k
-unfolding changed
-but_changed x a f k = refl
 
 module _ {V : Type 0} (canon : V → V) (cs : List Cell) (vs : List V) (v : V) (len : length cs ≡ length vs) (few : length cs ≤ ask_limit) where
   taken_down : recording canon cs vs v ≡ Ok (record { asks = pairs_of canon cs vs; result = canon v })

@@ -1,7 +1,7 @@
 -- Each way out of the two functions, and round the loop, by what the workbook shows before and after.
 use borrow.Rule.Slice.PartMut.{put_mid, post_of}
 use Rattle.std.proofs.Common.{◌≡◌, ℕ, ◌+◌, ◌-◌, ◌<◌, ◌≤◌, true, false, List, [], ◌∷◌, ◌++◌, map, length, take, set, Err, sym, refl, ap, ◌∙◌, subst, arith, length-append}
-use Rattle.std.proofs.lemmas.List.{take_more_set, length-take-le, take_all}
+use Rattle.std.proofs.lemmas.List.{map-append, length-map, take_more_set, length-take-le, take_all}
 use Rattle.std.proofs.lemmas.Slice.{take-put_mid_below}
 use Rattle.std.proofs.lemmas.Result.{err_from_is_err_and}
 use Rattle.interfaces.specs.Asks.{asked_cells}
@@ -11,7 +11,6 @@ use Rattle.moves.specs.Paths.{path_cells}
 use Rattle.scheduler.specs.Outcomes.{outcome_of}
 use Rattle.scheduler.specs.Settling.{Leaves, Settles}
 use Rattle.scheduler.proofs.Lengths.{pushed, popped}
-use Rattle.scheduler.proofs.Reporting.{map_push, length_map}
 use Rattle.scheduler.proofs.Codes.{discrete}
 use Rattle.scheduler.proofs.Going as going
 use Rattle.scheduler.proofs.Going.{from_none, few_asked}
@@ -133,7 +132,7 @@ settle-returns-then-len-ge-CELLS g t c = record {
   lent = refl;
   settles = steps.too_deep g.V.Value.blank g.R.Rebuilder.depth (discrete g.row.V.coded) (view g c.args.parts.now) (map number_of (path_cells c.args.path.now)) (number_of c.args.cell)
       (view g c.args.parts.now) c.args.report.now.ran c.args.report.now.list.now c.args.report.now.ran c.args.report.now.list.now _
-      (omega (arith, length_map number_of (path_cells c.args.path.now), c.len.ensures.count, c.if-len-ge-CELLS.true)) (c.if-not-in_doubt.ensures.yes tt);
+      (omega (arith, length-map (path_cells c.args.path.now) number_of, c.len.ensures.count, c.if-len-ge-CELLS.true)) (c.if-not-in_doubt.ensures.yes tt);
 }
 
 pub settle-returns-in_err-value : goal.settle-returns-in_err-value
@@ -148,7 +147,7 @@ settle-returns-in_err-value g t c =
           c.args.report.now.ran c.args.report.now.list.now c.follow.new.report.ran c.follow.new.report.list.now (outcome_of g.V.Value.canon (path_cells c.follow.new.path) z)) (sym (q.1 ∙ ap Err q.2))
           (steps.settled_follow g.V.Value.blank g.R.Rebuilder.depth (discrete g.row.V.coded) (view g c.args.parts.now) (map number_of (path_cells c.args.path.now)) (number_of c.args.cell) (view g c.follow.new.parts) _
           c.args.report.now.ran c.args.report.now.list.now c.follow.new.report.ran c.follow.new.report.list.now _ (c.if-not-in_doubt.ensures.yes tt)
-          (ap (map number_of) u ∙ map_push number_of (path_cells c.args.path.now) c.args.cell) s.follows);
+          (ap (map number_of) u ∙ map-append number_of (path_cells c.args.path.now) (c.args.cell ∷ [])) s.follows);
     }
 
 pub settle-returns : goal.settle-returns
@@ -160,5 +159,5 @@ settle-returns g t c =
       lent = s.lent;
       settles = steps.settled_follow g.V.Value.blank g.R.Rebuilder.depth (discrete g.row.V.coded) (view g c.args.parts.now) (map number_of (path_cells c.args.path.now)) (number_of c.args.cell) (view g c.follow.new.parts) _
           c.args.report.now.ran c.args.report.now.list.now c.follow.new.report.ran c.follow.new.report.list.now _ (c.if-not-in_doubt.ensures.yes tt)
-          (ap (map number_of) u ∙ map_push number_of (path_cells c.args.path.now) c.args.cell) s.follows;
+          (ap (map number_of) u ∙ map-append number_of (path_cells c.args.path.now) (c.args.cell ∷ [])) s.follows;
     }
