@@ -40,7 +40,8 @@ fn whole(number: i16) -> Whole {
     Whole::new(number as i32).unwrap()
 }
 
-// `ok`, or the number of the refusal, and its place in the text if it has one.
+// `ok`, or the number of the refusal, and its place in the text if it has one. A function, as those below: refusals,
+// faults and runs are types of other crates, and a Display needs a wrapper of its own for each, which is no plainer.
 fn print_done(rt: &HostRuntime, done: Result<(), Refusal>) -> io::Result<()> {
     let Err(refusal) = done else {
         return println!(rt; "ok");
