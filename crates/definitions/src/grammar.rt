@@ -8,8 +8,8 @@ ghost use Rattle.definitions.specs.Meant.{meant, ruled};
 use interfaces::step::Step;
 use interfaces::value::Value;
 
-/// A grammar over a kind of value: which texts are in a language, and the steps of those that are. It is asked about
-/// texts of at most 48 bytes alone.
+/// A grammar over a kind of value: which texts are in a language, and the steps of those that are. What it says of a
+/// text of more than 48 bytes does not count.
 pub trait Grammar<V: Value> {
     // what a text stands for
     ghost stands: { List ℕ → Verdict V };
@@ -18,13 +18,11 @@ pub trait Grammar<V: Value> {
 
     /// Whether the text is in the language, or else the length of its longest beginning that also begins a text in it.
     fn rule(text: &[u8]) -> Result<(), usize>
-        requires { length text.now ≤ text_limit }
-        ensures { result ≡ ruled (stands text.now) };
+        ensures { length text.now ≤ text_limit → result ≡ ruled (stands text.now) };
 
     /// The step of a cell that holds this text; a text that is not in the language is no definition.
     fn step_of(text: &[u8], answers: &[V]) -> Step<V>
-        requires { length text.now ≤ text_limit }
-        ensures { step_means V.Value.canon result ≡ step_of V.Value.blank (meant stands text.now) (map V.Value.canon answers.now) };
+        ensures { length text.now ≤ text_limit → step_means V.Value.canon result ≡ step_of V.Value.blank (meant stands text.now) (map V.Value.canon answers.now) };
 
     // memory holds a text up to its first zero byte, so that a text in the language has none
     ghost full: { (text : List ℕ) (d : Def V) → stands text ≡ legal d → zero_in text ≡ false };

@@ -11,7 +11,7 @@ ghost use Rattle.fragment.specs.Readings.{item_means};
 ghost use Rattle.fragment.specs.Steps.{joined_as, Grew, RunsAs};
 
 use crate::item::{Item, item_from, row_from};
-use interfaces::cell::Cell;
+use interfaces::cell::{Cell, TEXT};
 use interfaces::step::{LanguageFault, Step};
 use interfaces::value::Value;
 use text::Text;
@@ -100,11 +100,14 @@ fn run(text: &[u8], at: usize, before: Text, answers: &[Text]) -> Step<Text>
     }
 }
 
-/// The step of a text that memory holds; a text that is no fragment is no definition, and gives the blank.
+/// The step of a text; one that is no fragment is no definition, and gives the blank, as one does that is too long to
+/// be a definition.
 pub fn step_of(text: &[u8], answers: &[Text]) -> Step<Text>
-    requires { length text.now ≤ text_limit }
-    ensures { step_means text_canon result ≡ step_of text_blank (meant fragment_stands text.now) (map text_canon answers.now) }
+    ensures { length text.now ≤ text_limit → step_means text_canon result ≡ step_of text_blank (meant fragment_stands text.now) (map text_canon answers.now) }
 {
+    if text.len() > TEXT {
+        return Step::Give(<Text as Value>::blank_value());
+    }
     match row_from(text, 0) {
         Ok(()) => run(text, 0, <Text as Value>::blank_value(), answers),
         Err(_) => Step::Give(<Text as Value>::blank_value()),
