@@ -2,9 +2,9 @@
 use Rattle.std.proofs.Common.{◌≡◌, ℕ, suc, ◌+◌, ◌-◌, ◌<◌, ◌≤◌, Bool, true, false, cond, eqb, ◌&&◌, List, [], ◌∷◌, map, length, get_or, drop, sym, refl, ap, ◌∙◌, arith}
 use mathlib.Core.Option.{Option, none, some}
 use Rattle.std.specs.List.{range_with_len, list_all, zip}
-use Rattle.std.proofs.lemmas.List.{drop_more, drop_all}
+use Rattle.std.proofs.lemmas.List.{drop_more}
 use Rattle.interfaces.specs.declared.cell.Cell.{Cell}
-use Rattle.interfaces.specs.Cells.{ask_limit, number_of}
+use Rattle.interfaces.specs.Cells.{number_of}
 use Rattle.interfaces.specs.Traces.{Pair, Trace, pairs_of, after, kept_to, exact, next_of, onward, chosen, plan, Planned, runs, keeps, next}
 use Rattle.rows.specs.Kept.{trace_of, preferred}
 
@@ -68,9 +68,6 @@ module _ {V : Type 0} (canon : V → V) (alike : V → V → Bool) where
 
   module _ (blank : V) (asked : List Cell) (answers : List V) (ps : List (Pair V)) (n : ℕ)
       (e : after alike ps (pairs_of canon asked answers) ≡ some (pairs_of canon (drop n asked) (drop n answers))) where
-    pub plan_whole : length asked ≤ n → keeps (canon (get_or answers ask_limit blank)) ≡ plan alike (trace_of canon blank asked answers ∷ []) ps
-    plan_whole l = rw e (rw (drop_all n asked l) refl)
-
     pub plan_onward : (d : Cell) → n < length asked → n < length answers
         → next (number_of (get_or asked n d)) ≡ plan alike (trace_of canon blank asked answers ∷ []) ps
     plan_onward d l m = rw e (rw (drop_more asked n d l, drop_more answers n blank m) refl)
@@ -107,12 +104,9 @@ module _ {V : Type 0} (canon : V → V) (alike : V → V → Bool) where
   pub record Weighed (f : ℕ → Trace V) (n : ℕ) (ps : List (Pair V)) (best : Planned V) (j : ℕ) : Type 0 where
     pub weighs : plan alike (map f (range_with_len 0 n)) ps ≡ preferred best (plan alike (map f (range_with_len j (n - j))) ps)
 
-  pub weighed_none : (f : ℕ → Trace V) (n : ℕ) (ps : List (Pair V)) → Weighed f n ps runs 0
-  weighed_none f n ps = let e : n ≡ n - 0 = omega arith in record { weighs = ap (λ i. plan alike (map f (range_with_len 0 i)) ps) e }
-
   module _ {f : ℕ → Trace V} {n j : ℕ} {ps : List (Pair V)} {best : Planned V} (h : Weighed f n ps best j) where
-    pub weighed_more : (p more : Planned V) → j < n → p ≡ plan alike (f j ∷ []) ps → more ≡ preferred best p → Weighed f n ps more (j + 1)
-    weighed_more p more l u v =
+    pub weighed_more : (t : Trace V) (p more : Planned V) → j < n → t ≡ f j → p ≡ plan alike (t ∷ []) ps → more ≡ preferred best p → Weighed f n ps more (j + 1)
+    weighed_more t p more l a u v =
         let e : n - j ≡ suc (n - (j + 1)) = omega arith in
         let rest = plan alike (map f (range_with_len (j + 1) (n - (j + 1)))) ps in
         record {
@@ -121,7 +115,7 @@ module _ {V : Type 0} (canon : V → V) (alike : V → V → Bool) where
               ∙ ap (λ i. preferred best (plan alike (map f (range_with_len j i)) ps)) e
               ∙ ap (preferred best) (plan_more (f j) (map f (range_with_len (j + 1) (n - (j + 1)))) ps)
               ∙ regroup best (plan alike (f j ∷ []) ps) rest
-              ∙ ap (λ x. preferred (preferred best x) rest) (sym u)
+              ∙ ap (λ x. preferred (preferred best x) rest) (ap (λ x. plan alike (x ∷ []) ps) (sym a) ∙ sym u)
               ∙ ap (λ x. preferred x rest) (sym v);
         }
 

@@ -1,43 +1,18 @@
 -- Rows and what they stand for. Assumes nothing.
-use Rattle.std.proofs.Common.{◌≡◌, ℕ, zero, suc, ◌<◌, ◌≤◌, Bool, true, false, cond, eqb, ◌≢◌, List, [], ◌∷◌, map, length, get_or, take, set, replicate, Ok, sym, refl, ap, ◌∙◌, arith, le-leb, eq-eqb, eqb-true}
+use Rattle.std.proofs.Common.{◌≡◌, ℕ, zero, suc, ◌≤◌, Bool, true, false, cond, eqb, ◌≢◌, List, [], ◌∷◌, map, length, get_or, take, replicate, Ok, refl, ap, ◌∙◌, arith, le-leb, eq-eqb, eqb-true}
 use borrow.Author.Tests.{eqb-false}
 use Rattle.std.specs.List.{range_with_len}
-use Rattle.std.proofs.lemmas.List.{get_or_default, get_or-set_same, get_or-set_other}
 use Rattle.std.proofs.lemmas.Bool.{cond-true}
 use Rattle.interfaces.specs.declared.cell.Cell.{Cell}
 use Rattle.interfaces.specs.Cells.{ask_limit, but}
 use Rattle.interfaces.specs.Traces.{Pair, Trace, Planned, pairs_of, plan, recording}
-use Rattle.interfaces.specs.declared.asked.Asked.{Asked}
 use Rattle.rows.specs.declared.row.Row.{Row}
-use Rattle.rows.specs.Rings.{before, one_up}
-use Rattle.rows.specs.Kept.{no_row, Cleared, Pushed, trace_aged, row_traces, traces_of}
+use Rattle.rows.specs.Kept.{no_row, Cleared, trace_aged, row_traces, traces_of}
 
 pub fresh : (depth n k : ℕ) (row : Row depth) → row.count ≡ 0 → (get_or (replicate n row) k (no_row depth)).count ≡ 0
 fresh depth zero k row e = refl
 fresh depth (suc n) zero row e = e
 fresh depth (suc n) (suc k) row e = fresh depth n k row e
-
--- the row of the cell `c` of a table, read or written at the place `n`
-module _ {depth : ℕ} (rows : List (Row depth)) (n c : ℕ) (e : n ≡ c) (l : n < length rows) where
-  pub row_at : (d : Row depth) → get_or rows n d ≡ get_or rows c (no_row depth)
-  row_at d = get_or_default rows n d (no_row depth) l ∙ ap (λ k. get_or rows k (no_row depth)) e
-
-  module _ (row : Row depth) where
-    there : get_or (set rows n row) c (no_row depth) ≡ row
-    there = ap (λ k. get_or (set rows n row) k (no_row depth)) (sym e) ∙ get_or-set_same rows n row (no_row depth) l
-
-    elsewhere : (k : ℕ) → k ≢ c → get_or (set rows n row) k (no_row depth) ≡ get_or rows k (no_row depth)
-    elsewhere k ne = get_or-set_other rows n k row (no_row depth) (λ z. ne (z ∙ e))
-
-    pub cleared : row.count ≡ 0 → Cleared depth c rows (set rows n row)
-    cleared z = record { count = ap (λ (r : Row depth). r.count) there ∙ z; others = elsewhere }
-
-    pub pushed_on : (d : Row depth) (asked : Asked) → row.newest ≡ before depth (get_or rows n d).newest → row.count ≡ one_up depth (get_or rows n d).count
-        → row.asked ≡ set (get_or rows n d).asked (before depth (get_or rows n d).newest) asked → Pushed depth c asked rows (set rows n row)
-    pushed_on d asked p q a =
-        let t = there in
-        let o = row_at d in
-        record { newest = cc; count = cc; asks = cc; others = elsewhere }
 
 module _ {V : Type 0} (canon : V → V) (blank : V) (depth : ℕ) where
   -- a row that counts nothing stands for no trace

@@ -1,25 +1,18 @@
-use Rattle.std.proofs.Common.{◌<◌, ◌≤◌, [], ◌∷◌, ap, ◌∙◌, arith}
-use Rattle.interfaces.specs.Traces.{plan_means, pairs_of, plan}
-use Rattle.rows.proofs.Plans.{weighed_none, weighed_more, weighed_all, weighed_kept}
+use Rattle.std.proofs.Common.{◌<◌, ◌≤◌, ap, arith}
+use Rattle.interfaces.specs.Traces.{plan_means}
+use Rattle.rows.proofs.Plans.{weighed_more, weighed_all, weighed_kept}
 use Rattle.rows.proofs.Rows.{plan_of_row}
 use Rattle.rows.proofs.held.Held.plan.Goals as goal
-
-pub loop-age-init : goal.loop-age-init
-loop-age-init g c = weighed_none g.V.Value.canon g.V.Value.alike _ _ _
 
 pub loop-age-preserved : goal.loop-age-preserved
 loop-age-preserved g c =
     let l : c.loop-age.age < c.args.self.now.row.now.count = omega (arith, c.count-age-end.ensures) in
-    weighed_more g.V.Value.canon g.V.Value.alike c.loop-age.invariant _ _ l
-    (c.plan.ensures ∙ ap (λ t. plan g.V.Value.alike (t ∷ []) (pairs_of g.V.Value.canon c.args.pairs.now.cells.now c.args.pairs.now.values.now)) c.aged.ensures)
-    c.prefer-best.ensures
+    weighed_more g.V.Value.canon g.V.Value.alike c.loop-age.invariant _ _ _ l c.aged.ensures c.plan.ensures c.prefer-best.ensures
 
 pub returns-in-Keep : goal.returns-in-Keep
 returns-in-Keep g c =
     let l : c.loop-age.age < c.args.self.now.row.now.count = omega (arith, c.count-age-end.ensures) in
-    let more = weighed_more g.V.Value.canon g.V.Value.alike c.loop-age.invariant _ _ l
-    (c.plan.ensures ∙ ap (λ t. plan g.V.Value.alike (t ∷ []) (pairs_of g.V.Value.canon c.args.pairs.now.cells.now c.args.pairs.now.values.now)) c.aged.ensures)
-    c.prefer-best.ensures in
+    let more = weighed_more g.V.Value.canon g.V.Value.alike c.loop-age.invariant _ _ _ l c.aged.ensures c.plan.ensures c.prefer-best.ensures in
     plan_of_row g.V.Value.canon g.V.Value.blank g.row.D g.V.Value.alike _ _ _ _ _
     (weighed_kept g.V.Value.canon g.V.Value.alike more _ (ap (plan_means g.V.Value.canon) c.in-Keep.is))
 

@@ -1,10 +1,9 @@
-use Rattle.std.proofs.Common.{ap, sym, ◌∙◌, length, get_or, arith, ltb-true, ltb-false}
-use Rattle.std.proofs.lemmas.List.{get_or_default}
+use Rattle.std.proofs.Common.{ap, sym, ◌∙◌, length, get_or, arith, ltb-true}
 use Rattle.interfaces.specs.Asks.{asked_cells}
-use Rattle.interfaces.specs.Traces.{keeps, next}
+use Rattle.interfaces.specs.Traces.{next}
 use Rattle.interfaces.specs.Cells.{number_of}
 use Rattle.rows.specs.Kept.{trace_of}
-use Rattle.rows.proofs.Plans.{too_many, plan_apart, plan_whole, plan_onward}
+use Rattle.rows.proofs.Plans.{too_many, plan_apart, plan_onward}
 use Rattle.rows.proofs.held.Kept.plan.Goals as goal
 use Rattle.rows.proofs.held.Kept.plan.Goals.{then-pairs-asked-via-then-pairs-asked, then-pairs-asked-via-else-pairs-asked+then-not-begins}
 
@@ -29,11 +28,3 @@ returns-in-Some g c =
     let l = ltb-true _ _ (sym c.in-Some.ensures.lookup.0) in
     ap (λ a. next (number_of a)) (c.in-Some.ensures.lookup.1 ∙ ap (λ asked. get_or asked (length c.args.pairs.now.cells.now) c.in-Some.next.now) c.as_slice-asked.ensures.cells)
     ∙ plan_onward g.V.Value.canon g.V.Value.alike g.V.Value.blank (asked_cells c.args.self.now.asked.now) c.args.self.now.block.now _ (length c.args.pairs.now.cells.now) c.if-not-begins.ensures c.in-Some.next.now (omega arith) (omega arith)
-
-pub returns-in-None : goal.returns-in-None
-returns-in-None g c =
-    let whole = c.args.self.now.whole in
-    let few = ap length c.as_slice-asked.ensures.cells in
-    let l = ltb-false _ _ (sym c.in-None.ensures.lookup.0) in
-    ap (λ v. keeps (g.V.Value.canon v)) (get_or_default c.args.self.now.block.now 8 _ g.V.Value.blank (omega arith))
-    ∙ plan_whole g.V.Value.canon g.V.Value.alike g.V.Value.blank (asked_cells c.args.self.now.asked.now) c.args.self.now.block.now _ (length c.args.pairs.now.cells.now) c.if-not-begins.ensures (omega arith)
