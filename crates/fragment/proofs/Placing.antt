@@ -1,6 +1,6 @@
 -- The readers of the code read what the readers of the grammar read. Assumes nothing.
 use Rattle.std.proofs.Common.{◌≡◌, ℕ, suc, ◌+◌, ◌<◌, ◌≤◌, Bool, true, false, cond, eqb, List, [], length, get_or, take, drop, Some, None, Option, Ok, Err, Result, MatchOption, sym, refl, ap, ◌∙◌, subst, arith}
-use Rattle.std.proofs.lemmas.List.{drop-drop, drop_all, get_or-drop, take_at, length-append, length-drop, length-take-le}
+use Rattle.std.proofs.lemmas.List.{drop-drop, drop_all, get_or-drop, take_at, length-drop, length-take-le}
 use Rattle.std.proofs.lemmas.Bool.{cond-true, cond-false}
 use Rattle.std.specs.Option.{ok_or}
 use Rattle.interfaces.specs.Cells.{number_of}
@@ -9,9 +9,9 @@ use Rattle.names.specs.Names.{name_of, NameAt, NoNameAt}
 use Rattle.fragment_grammar.specs.Grammar.{Item, plain, insert, written, opening, closing, question, Sound}
 use Rattle.fragment_grammar.specs.Reader.{Read, got, stuck, further, and_then, head, nothing, led, is_column, is_first, is_second, name_in, named, filled_in, tested_in, is_plain, item_in, Rows, row, astray, fronted, rows}
 use Rattle.fragment_grammar.proofs.Reading.{Right}
-use Rattle.fragment_grammar.proofs.NameReading.{NameRight, name_right, name_shortest, same_name}
+use Rattle.fragment_grammar.proofs.NameReading.{NameRight, name_right, same_name}
 use Rattle.fragment_grammar.proofs.ItemReading.{Word, item_right, word_full}
-use Rattle.fragment_grammar.proofs.RowReading.{RowRight, rows_got, rows_stuck, rows_right}
+use Rattle.fragment_grammar.proofs.RowReading.{rows_got, rows_stuck}
 use Rattle.fragment.specs.Readings.{read_means, placed, row_answer}
 
 -- a call that went well did not fail
@@ -115,15 +115,6 @@ module _ (text : List ℕ) (at n next : ℕ) (a : NameAt text at n next) where
   pub name_read : Ok (n, next) ≡ placed at (name_in (drop at text))
   name_read = read_name (name_in (drop at text)) (name_right (drop at text))
 
-  pub name_within : at ≤ length text → next ≤ length text
-  name_within l =
-      let s = name_shortest n a.within in
-      let d = length-drop at text in
-      let e = ap length a.reads in
-      let f = length-append (name_of n) (drop next text) in
-      let g = a.next_is in
-      omega arith
-
 -- where no name stands, the place depends on the column letter alone
 stuck_place : (b c d : Bool) (x y p : ℕ) → cond b (cond c (cond d (got x 3) (got y 2)) (stuck 1)) (stuck 0) ≡ stuck p → p ≡ cond b 1 0
 stuck_place true true true x y p e = absurd (let z : ◌≡◌ {A = ℕ} 0 1 = cc in omega arith)
@@ -209,8 +200,3 @@ answer_row (astray p) u e = absurd (ok_err u p e)
 pub answer_astray : (r : Rows) (p : ℕ) → Err p ≡ row_answer r → r ≡ astray p
 answer_astray (row items) p e = absurd (ok_err tt p (sym e))
 answer_astray (astray q) p e = let u : q ≡ p = cc in ap astray u
-
-pub astray_within : (text : List ℕ) (p : ℕ) → rows 0 0 text ≡ astray p → p ≤ length text
-astray_within text p e =
-    let k = subst (RowRight 0 text) e (rows_right (length text) 0 text (omega arith)) in
-    let s = k.size in let f = k.fits in omega arith
