@@ -1,8 +1,7 @@
 -- The place where a text leaves a language: there is one. Assumes nothing.
-use Rattle.std.proofs.Common.{◌≡◌, ℕ, List, [], ⊎_elim}
-use Rattle.std.proofs.lemmas.List.{append-nil}
+use Rattle.std.proofs.Common.{◌≡◌, ℕ, List, ⊎_elim}
 use Rattle.std.proofs.lemmas.Bool.{cases_order}
-use Rattle.definitions.specs.Longest.{Begins, Longest}
+use Rattle.definitions.specs.Longest.{Longest}
 
 module _ (Legal : List ℕ → Type 0) where
   -- the place is one
