@@ -43,10 +43,6 @@ module _ {A : Type 0} (text : List ℕ) (at b : ℕ) (go : List ℕ → Read A) 
       ap (placed at) (cond-false (eqb (head (drop at text)) b) (further 1 (go (drop 1 (drop at text)))) (stuck 0) (ap (λ h. eqb h b) head_drop ∙ sym e))
       ∙ ap Err z
 
--- a byte that ends an item
-pub ended : {A : Type 0} (text : List ℕ) (at b : ℕ) (x : A) → true ≡ eqb (get_or text at 0) b → placed at (led b (nothing x) (drop at text)) ≡ Ok (x, at + 1)
-ended text at b x e = let z : at + 1 + 0 ≡ at + 1 = omega arith in led_yes text at b (nothing x) e ∙ ap (λ n. Ok (x, n)) z
-
 -- a name and what comes behind it
 module _ {A : Type 0} (text : List ℕ) (at n next : ℕ) (go : ℕ → List ℕ → Read A) where
   named_at : (r : Read ℕ) → Ok (n, next) ≡ placed at r → placed at (and_then r go (drop at text)) ≡ placed next (go n (drop next text))
@@ -69,14 +65,8 @@ module _ (text : List ℕ) (at c : ℕ) where
       ap (λ t. cond t (led closing (nothing (insert c)) (drop at text)) (led question (filled_in c) (drop at text)))
       (ap (λ h. eqb h closing) (head_drop text at closing (nothing c)) ∙ e)
 
-  pub tested_end : true ≡ eqb (get_or text at 0) closing → placed at (tested_in c (drop at text)) ≡ Ok (insert c, at + 1)
-  tested_end e = ap (placed at) (tested_split true (sym e)) ∙ ended text at closing (insert c) e
-
   pub tested_choice : false ≡ eqb (get_or text at 0) closing → true ≡ eqb (get_or text at 0) question → placed at (tested_in c (drop at text)) ≡ placed (at + 1) (filled_in c (drop (at + 1) text))
   tested_choice e f = ap (placed at) (tested_split false (sym e)) ∙ led_yes text at question (filled_in c) f
-
-  pub tested_none : false ≡ eqb (get_or text at 0) closing → false ≡ eqb (get_or text at 0) question → placed at (tested_in c (drop at text)) ≡ Err at
-  tested_none e f = ap (placed at) (tested_split false (sym e)) ∙ led_no text at question (filled_in c) f
 
 -- an item
 module _ (text : List ℕ) (at : ℕ) where
@@ -84,9 +74,6 @@ module _ (text : List ℕ) (at : ℕ) where
   item_split b e =
       ap (λ h. cond (is_plain h) (got (plain h) 1) (led opening (named tested_in) (drop at text))) (head_drop text at opening (nothing at))
       ∙ ap (λ t. cond t (got (plain (get_or text at 0)) 1) (led opening (named tested_in) (drop at text))) (sym e)
-
-  pub item_plain : true ≡ is_plain (get_or text at 0) → placed at (item_in (drop at text)) ≡ Ok (plain (get_or text at 0), at + 1)
-  item_plain e = ap (placed at) (item_split true e)
 
   pub item_braces : false ≡ is_plain (get_or text at 0) → true ≡ eqb (get_or text at 0) opening → placed at (item_in (drop at text)) ≡ placed (at + 1) (named tested_in (drop (at + 1) text))
   item_braces e f = ap (placed at) (item_split false e) ∙ led_yes text at opening (named tested_in) f
@@ -192,11 +179,7 @@ pub row_fronted : (i : Item) (r : Rows) → row_answer r ≡ row_answer (fronted
 row_fronted i (row items) = refl
 row_fronted i (astray p) = refl
 
--- the answer of a reading says whether the text is a row, and where it goes astray
+-- the answer of a reading says whether the text is a row
 pub answer_row : (r : Rows) (u : Unit {0}) → Ok u ≡ row_answer r → (items : List Item) × (r ≡ row items)
 answer_row (row items) u e = (items, refl)
 answer_row (astray p) u e = absurd (ok_err u p e)
-
-pub answer_astray : (r : Rows) (p : ℕ) → Err p ≡ row_answer r → r ≡ astray p
-answer_astray (row items) p e = absurd (ok_err tt p (sym e))
-answer_astray (astray q) p e = let u : q ≡ p = cc in ap astray u

@@ -121,7 +121,3 @@ step_legal [] items answers act e r =
     let u : items ≡ [] = cc in
     r ∙ ap (λ is. runs 0 [] is answers) u ∙ ap gives blank_of
 step_legal (b ∷ bs) items answers act e r = r ∙ sym (ap (λ x. step_of text_blank (definition_in (verdict x)) answers) e)
-
-pub step_astray : (text : List ℕ) (p : ℕ) (answers : List Text) → rows 0 0 text ≡ astray p → gives text_blank ≡ step_of text_blank (meant fragment_stands text) answers
-step_astray [] p answers e = refl
-step_astray (b ∷ bs) p answers e = sym (ap (λ x. step_of text_blank (definition_in (verdict x)) answers) e)

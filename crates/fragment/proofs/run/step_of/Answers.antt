@@ -1,10 +1,9 @@
 use Rattle.std.proofs.Common.{map, ap, ◌∙◌}
-use Rattle.interfaces.specs.Tasks.{gives}
 use Rattle.text.specs.Text.{text_means, text_canon}
 use Rattle.fragment_grammar.specs.Meaning.{runs}
 use Rattle.fragment_grammar.specs.Reader.{rows}
-use Rattle.fragment.proofs.Placing.{answer_row, answer_astray}
-use Rattle.fragment.proofs.Running.{blank_empty, blank_canon, step_legal, step_astray}
+use Rattle.fragment.proofs.Placing.{answer_row}
+use Rattle.fragment.proofs.Running.{blank_empty, step_legal}
 use Rattle.fragment.proofs.run.step_of.Goals as goal
 
 pub returns-in-Ok : goal.returns-in-Ok
@@ -12,8 +11,3 @@ returns-in-Ok c =
     let r = answer_row (rows 0 0 c.args.text.now) _ c.in-Ok.ensures in
     step_legal c.args.text.now r.0 (map text_canon c.args.answers.now) _ r.1
     (c.run.ensures r.0 r.1 ∙ ap (λ b. runs 0 b r.0 (map text_canon c.args.answers.now)) (ap text_means c.blank_value.ensures ∙ blank_empty))
-
-pub returns-in-Err : goal.returns-in-Err
-returns-in-Err c =
-    ap gives (ap text_canon c.blank_value-in-Err.ensures ∙ blank_canon)
-    ∙ step_astray c.args.text.now _ (map text_canon c.args.answers.now) (answer_astray (rows 0 0 c.args.text.now) _ c.in-Err.ensures)
