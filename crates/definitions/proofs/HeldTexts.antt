@@ -157,9 +157,6 @@ text_put memory after text c r h w k =
     let b = before_padding text (text_limit - length text) p.2 in
     ap (λ m. text_at m k) w ∙ t ∙ ap (λ x. but c x (text_at memory) k) b ∙ sym (cond-true (can_put memory c text) (but c text (text_at memory) k) (text_at memory k) (and_from _ _ r h))
 
-pub text_kept : (memory text : List ℕ) (c k : ℕ) → can_put memory c text ≡ false → text_at memory k ≡ after_put memory c text k
-text_kept memory text c k h = sym (cond-false (can_put memory c text) (but c text (text_at memory) k) (text_at memory k) h)
-
 -- after zeros were written from the place `s` to the place `i`
 pub record Cleared (memory now : List ℕ) (s i : ℕ) : Type 0 where
   pub zeros : (j : ℕ) → s ≤ j → j < i → get_or now j 0 ≡ 0

@@ -14,8 +14,10 @@ pub trait Grammar<V: Value> {
     // what a text stands for
     ghost stands: { List ℕ → Verdict V };
 
+    // a text in the language has no fault with a number of the engine
     ghost own: { (text : List ℕ) → Own (stands text) };
 
+    // Each of the two clauses asks for the bound: a struct that carries it would be made for one call and taken apart in it.
     /// Whether the text is in the language, or else the length of its longest beginning that also begins a text in it.
     fn rule(text: &[u8]) -> Result<(), usize>
         ensures { length text.now ≤ text_limit → result ≡ ruled (stands text.now) };

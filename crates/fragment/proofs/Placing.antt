@@ -1,6 +1,6 @@
 -- The readers of the code read what the readers of the grammar read. Assumes nothing.
 use Rattle.std.proofs.Common.{◌≡◌, ℕ, suc, ◌+◌, ◌<◌, ◌≤◌, Bool, true, false, cond, eqb, List, [], length, get_or, take, drop, Some, None, Option, Ok, Err, Result, MatchOption, sym, refl, ap, ◌∙◌, subst, arith}
-use Rattle.std.proofs.lemmas.List.{drop-drop, drop_all, get_or-drop, take_at, length-append, length-drop, length-take-le}
+use Rattle.std.proofs.lemmas.List.{drop-drop, drop_all, get_or-drop, take_at, length-drop, length-take-le}
 use Rattle.std.proofs.lemmas.Bool.{cond-true, cond-false}
 use Rattle.std.specs.Option.{ok_or}
 use Rattle.interfaces.specs.Cells.{number_of}
@@ -9,9 +9,9 @@ use Rattle.names.specs.Names.{name_of, NameAt, NoNameAt}
 use Rattle.fragment_grammar.specs.Grammar.{Item, plain, insert, written, opening, closing, question, Sound}
 use Rattle.fragment_grammar.specs.Reader.{Read, got, stuck, further, and_then, head, nothing, led, is_column, is_first, is_second, name_in, named, filled_in, tested_in, is_plain, item_in, Rows, row, astray, fronted, rows}
 use Rattle.fragment_grammar.proofs.Reading.{Right}
-use Rattle.fragment_grammar.proofs.NameReading.{NameRight, name_right, name_shortest, same_name}
+use Rattle.fragment_grammar.proofs.NameReading.{NameRight, name_right, same_name}
 use Rattle.fragment_grammar.proofs.ItemReading.{Word, item_right, word_full}
-use Rattle.fragment_grammar.proofs.RowReading.{RowRight, rows_got, rows_stuck, rows_right}
+use Rattle.fragment_grammar.proofs.RowReading.{rows_got, rows_stuck}
 use Rattle.fragment.specs.Readings.{read_means, placed, row_answer}
 
 -- a call that went well did not fail
@@ -43,10 +43,6 @@ module _ {A : Type 0} (text : List ℕ) (at b : ℕ) (go : List ℕ → Read A) 
       ap (placed at) (cond-false (eqb (head (drop at text)) b) (further 1 (go (drop 1 (drop at text)))) (stuck 0) (ap (λ h. eqb h b) head_drop ∙ sym e))
       ∙ ap Err z
 
--- a byte that ends an item
-pub ended : {A : Type 0} (text : List ℕ) (at b : ℕ) (x : A) → true ≡ eqb (get_or text at 0) b → placed at (led b (nothing x) (drop at text)) ≡ Ok (x, at + 1)
-ended text at b x e = let z : at + 1 + 0 ≡ at + 1 = omega arith in led_yes text at b (nothing x) e ∙ ap (λ n. Ok (x, n)) z
-
 -- a name and what comes behind it
 module _ {A : Type 0} (text : List ℕ) (at n next : ℕ) (go : ℕ → List ℕ → Read A) where
   named_at : (r : Read ℕ) → Ok (n, next) ≡ placed at r → placed at (and_then r go (drop at text)) ≡ placed next (go n (drop next text))
@@ -69,14 +65,8 @@ module _ (text : List ℕ) (at c : ℕ) where
       ap (λ t. cond t (led closing (nothing (insert c)) (drop at text)) (led question (filled_in c) (drop at text)))
       (ap (λ h. eqb h closing) (head_drop text at closing (nothing c)) ∙ e)
 
-  pub tested_end : true ≡ eqb (get_or text at 0) closing → placed at (tested_in c (drop at text)) ≡ Ok (insert c, at + 1)
-  tested_end e = ap (placed at) (tested_split true (sym e)) ∙ ended text at closing (insert c) e
-
   pub tested_choice : false ≡ eqb (get_or text at 0) closing → true ≡ eqb (get_or text at 0) question → placed at (tested_in c (drop at text)) ≡ placed (at + 1) (filled_in c (drop (at + 1) text))
   tested_choice e f = ap (placed at) (tested_split false (sym e)) ∙ led_yes text at question (filled_in c) f
-
-  pub tested_none : false ≡ eqb (get_or text at 0) closing → false ≡ eqb (get_or text at 0) question → placed at (tested_in c (drop at text)) ≡ Err at
-  tested_none e f = ap (placed at) (tested_split false (sym e)) ∙ led_no text at question (filled_in c) f
 
 -- an item
 module _ (text : List ℕ) (at : ℕ) where
@@ -84,9 +74,6 @@ module _ (text : List ℕ) (at : ℕ) where
   item_split b e =
       ap (λ h. cond (is_plain h) (got (plain h) 1) (led opening (named tested_in) (drop at text))) (head_drop text at opening (nothing at))
       ∙ ap (λ t. cond t (got (plain (get_or text at 0)) 1) (led opening (named tested_in) (drop at text))) (sym e)
-
-  pub item_plain : true ≡ is_plain (get_or text at 0) → placed at (item_in (drop at text)) ≡ Ok (plain (get_or text at 0), at + 1)
-  item_plain e = ap (placed at) (item_split true e)
 
   pub item_braces : false ≡ is_plain (get_or text at 0) → true ≡ eqb (get_or text at 0) opening → placed at (item_in (drop at text)) ≡ placed (at + 1) (named tested_in (drop (at + 1) text))
   item_braces e f = ap (placed at) (item_split false e) ∙ led_yes text at opening (named tested_in) f
@@ -114,15 +101,6 @@ module _ (text : List ℕ) (at n next : ℕ) (a : NameAt text at n next) where
 
   pub name_read : Ok (n, next) ≡ placed at (name_in (drop at text))
   name_read = read_name (name_in (drop at text)) (name_right (drop at text))
-
-  pub name_within : at ≤ length text → next ≤ length text
-  name_within l =
-      let s = name_shortest n a.within in
-      let d = length-drop at text in
-      let e = ap length a.reads in
-      let f = length-append (name_of n) (drop next text) in
-      let g = a.next_is in
-      omega arith
 
 -- where no name stands, the place depends on the column letter alone
 stuck_place : (b c d : Bool) (x y p : ℕ) → cond b (cond c (cond d (got x 3) (got y 2)) (stuck 1)) (stuck 0) ≡ stuck p → p ≡ cond b 1 0
@@ -201,16 +179,7 @@ pub row_fronted : (i : Item) (r : Rows) → row_answer r ≡ row_answer (fronted
 row_fronted i (row items) = refl
 row_fronted i (astray p) = refl
 
--- the answer of a reading says whether the text is a row, and where it goes astray
+-- the answer of a reading says whether the text is a row
 pub answer_row : (r : Rows) (u : Unit {0}) → Ok u ≡ row_answer r → (items : List Item) × (r ≡ row items)
 answer_row (row items) u e = (items, refl)
 answer_row (astray p) u e = absurd (ok_err u p e)
-
-pub answer_astray : (r : Rows) (p : ℕ) → Err p ≡ row_answer r → r ≡ astray p
-answer_astray (row items) p e = absurd (ok_err tt p (sym e))
-answer_astray (astray q) p e = let u : q ≡ p = cc in ap astray u
-
-pub astray_within : (text : List ℕ) (p : ℕ) → rows 0 0 text ≡ astray p → p ≤ length text
-astray_within text p e =
-    let k = subst (RowRight 0 text) e (rows_right (length text) 0 text (omega arith)) in
-    let s = k.size in let f = k.fits in omega arith

@@ -1,5 +1,5 @@
 -- The steps of the code are those of the items. Assumes nothing.
-use Rattle.std.proofs.Common.{◌≡◌, ℕ, ◌+◌, ◌-◌, ◌<◌, ◌≤◌, Bool, true, false, cond, eqb, leb, List, [], ◌∷◌, ◌++◌, map, length, get_or, take, drop, Some, None, Option, Ok, Result, Bor, sym, refl, ap, ◌∙◌, subst, ⊎_elim, arith}
+use Rattle.std.proofs.Common.{◌≡◌, ℕ, ◌+◌, ◌-◌, ◌<◌, ◌≤◌, Bool, true, false, cond, leb, List, [], ◌∷◌, ◌++◌, map, length, get_or, take, drop, Some, None, Option, Ok, Result, Bor, sym, refl, ap, ◌∙◌, subst, ⊎_elim, arith}
 use Rattle.std.proofs.lemmas.List.{drop-map, take_rest}
 use Rattle.std.proofs.lemmas.Bool.{cond-true, cond-false, cases_lt, le-leb, lt-leb, and_from}
 use Rattle.std.specs.Slice.{IsItemAt}
@@ -10,7 +10,7 @@ use Rattle.text.specs.declared.Text.{Text}
 use Rattle.text.specs.Packing.{canon_is}
 use Rattle.definitions.specs.Meant.{definition_in, meant}
 use Rattle.fragment_grammar.specs.Grammar.{Item, insert, choice, written, IsPlain}
-use Rattle.fragment_grammar.specs.Meaning.{Brought, lacks, brings, brought, chosen, step_at, runs}
+use Rattle.fragment_grammar.specs.Meaning.{Brought, lacks, brings, brought, step_at, runs}
 use Rattle.fragment_grammar.specs.Reader.{Rows, row, astray, fronted, rows}
 use Rattle.fragment_grammar.specs.Stands.{verdict, fragment_stands}
 use Rattle.fragment.specs.declared.run.Stop.{Stop}
@@ -52,24 +52,10 @@ answer_there answers k None e a h q = absurd (cc)
 answer_there answers k (Some b) e a h q = let u : b ≡ a = cc in (h.3.0, ap (λ x. x.now) (sym u) ∙ h.3.1 text_blank)
 
 -- the answers of an item
-pub insert_lacks : (c : ℕ) (answers : List Text) → length answers ≡ 0 → brought (insert c) (map text_canon answers) ≡ lacks c
-insert_lacks c [] e = refl
-insert_lacks c (t ∷ ts) e = absurd (omega arith)
-
 pub insert_brings : (c : ℕ) (answers : List Text) (t : Text) → 0 < length answers → t ≡ get_or answers 0 text_blank
     → brought (insert c) (map text_canon answers) ≡ brings (text_means t) (drop 1 (map text_canon answers))
 insert_brings c [] t l e = absurd (omega arith)
 insert_brings c (u ∷ us) t l e = ap (λ x. brings x (map text_canon us)) (canon_means u ∙ ap text_means (sym e))
-
-pub choice_lacks : (c n m : ℕ) (answers : List Text) → length answers ≡ 0 → brought (choice c n m) (map text_canon answers) ≡ lacks c
-choice_lacks c n m [] e = refl
-choice_lacks c n m (t ∷ ts) e = absurd (omega arith)
-
-pub choice_chooses : (c n m : ℕ) (answers : List Text) (t : Text) → 0 < length answers → length answers < 2 → t ≡ get_or answers 0 text_blank
-    → brought (choice c n m) (map text_canon answers) ≡ lacks (chosen t n m)
-choice_chooses c n m [] t l u e = absurd (omega arith)
-choice_chooses c n m (x ∷ []) t l u e = ap (λ b. lacks (cond (eqb (length b) 0) m n)) (canon_means x ∙ ap text_means (sym e))
-choice_chooses c n m (x ∷ y ∷ ys) t l u e = absurd (omega arith)
 
 pub choice_brings : (c n m : ℕ) (answers : List Text) (t : Text) → 2 ≤ length answers → t ≡ get_or answers 1 text_blank
     → brought (choice c n m) (map text_canon answers) ≡ brings (text_means t) (drop 2 (map text_canon answers))
@@ -135,7 +121,3 @@ step_legal [] items answers act e r =
     let u : items ≡ [] = cc in
     r ∙ ap (λ is. runs 0 [] is answers) u ∙ ap gives blank_of
 step_legal (b ∷ bs) items answers act e r = r ∙ sym (ap (λ x. step_of text_blank (definition_in (verdict x)) answers) e)
-
-pub step_astray : (text : List ℕ) (p : ℕ) (answers : List Text) → rows 0 0 text ≡ astray p → gives text_blank ≡ step_of text_blank (meant fragment_stands text) answers
-step_astray [] p answers e = refl
-step_astray (b ∷ bs) p answers e = sym (ap (λ x. step_of text_blank (definition_in (verdict x)) answers) e)

@@ -1,5 +1,6 @@
 // Reads the items of a fragment. Each reader answers what it read and the place that follows, or the length of the
 // longest beginning of the text that also begins a fragment.
+// A text and a place in it are passed side by side, and an answer is a tuple: so the project has its readers.
 ghost use Rattle.std.specs.Prelude.{◌≡◌, ℕ, ◌+◌, ◌<◌, ◌≤◌, Bool, true, length, drop, if◌then◌else◌, MatchResult, ◌==◌, slice_index};
 ghost use Rattle.interfaces.specs.Cells.{number_of};
 ghost use Rattle.fragment_grammar.specs.Grammar.{Sound};
@@ -108,6 +109,7 @@ pub fn item_from(text: &[u8], at: usize) -> Result<(Item, usize), usize>
     Err(at)
 }
 
+// It calls itself for the rest of the text, as the project's readers do.
 /// Whether the text is a row of items from a place on.
 pub fn row_from(text: &[u8], at: usize) -> Result<(), usize>
     requires { at ≤ length text.now }

@@ -16,6 +16,7 @@ use interfaces::step::{LanguageFault, Step};
 use interfaces::value::Value;
 use text::Text;
 
+// A number, since `LanguageFault` has a number; there is no other fault to make a kind of.
 /// The fault of a text that grows past 32 bytes.
 pub const TOO_LONG: u8 = 14;
 
@@ -83,6 +84,7 @@ fn overflow(at: usize) -> Step<Text>
 }
 
 // The step of the text from a place on, where its items so far have made the text before.
+// It calls itself for the rest of the text, as the project's readers do.
 fn run(text: &[u8], at: usize, before: Text, answers: &[Text]) -> Step<Text>
     requires { (at ≤ length text.now) × (length text.now ≤ text_limit) }
     ensures { RunsAs text.now at (text_means before) (map text_canon answers.now) (step_means text_canon result) }

@@ -1,11 +1,8 @@
 use Rattle.std.proofs.Common.{sym, ap, ◌∙◌, arith, rules}
 use Rattle.std.proofs.lemmas.Result.{err_from_is_err_and}
 use Rattle.fragment.specs.Readings.{row_answer}
-use Rattle.fragment.proofs.Placing.{row_end, item_next, item_astray, row_fronted}
+use Rattle.fragment.proofs.Placing.{item_next, item_astray, row_fronted}
 use Rattle.fragment.proofs.item.+row_from.Goals as goal
-
-pub returns-then-at-text : goal.returns-then-at-text
-returns-then-at-text t c = sym (ap row_answer (row_end c.args.text.now c.args.at (omega arith)))
 
 pub returns-in_err-next : goal.returns-in_err-next
 returns-in_err-next t c =

@@ -1,11 +1,8 @@
 use Rattle.std.proofs.Common.{get_or, sym, ◌∙◌}
 use Rattle.fragment_grammar.specs.Grammar.{opening}
 use Rattle.std.proofs.lemmas.Bool.{eq-eqb, ne_eqb}
-use Rattle.fragment.proofs.Placing.{item_plain, item_braces, item_none}
+use Rattle.fragment.proofs.Placing.{item_braces, item_none}
 use Rattle.fragment.proofs.item.item_from.Goals as goal
-
-pub returns-then-is_plain : goal.returns-then-is_plain
-returns-then-is_plain c = sym (item_plain c.args.text.now c.args.at c.if-is_plain.ensures)
 
 pub returns-then-byte-eq123 : goal.returns-then-byte-eq123
 returns-then-byte-eq123 c =

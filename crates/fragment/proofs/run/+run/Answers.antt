@@ -1,5 +1,4 @@
-use Rattle.std.proofs.Common.{◌≤◌, map, length, subst, arith, rules}
-use Rattle.std.proofs.lemmas.List.{length-map}
+use Rattle.std.proofs.Common.{map, subst, arith, rules}
 use Rattle.interfaces.specs.Tasks.{step_means}
 use Rattle.text.specs.Text.{text_means, text_canon}
 use Rattle.fragment.specs.Readings.{item_means}
@@ -18,15 +17,6 @@ returns-in_default t c =
 
 pub grown_by-requires : goal.grown_by-requires
 grown_by-requires t c = (item_next c.args.text.now c.args.at c.if-at-text.false (item_means c.in-Ok.item) c.in-Ok.next c.in-Ok.ensures).sound
-
-pub offset_bounds-answers-used : goal.offset_bounds-answers-used
-offset_bounds-answers-used t c = let u = c.in-Ok-grown_by.ensures.5 in search rules
-
-pub slice_bounds-run-count : goal.slice_bounds-run-count
-slice_bounds-run-count t c = let u = c.in-Ok-grown_by.ensures.4 in simp length-map at u
-
-pub slice_bounds-run-start : goal.slice_bounds-run-start
-slice_bounds-run-start t c = let u : c.in-Ok-grown_by.used ≤ length c.args.answers.now = slice_bounds-run-count t c in search rules
 
 pub run-requires : goal.run-requires
 run-requires t c =

@@ -1,4 +1,4 @@
-use Rattle.std.proofs.Common.{map, sym, ◌∙◌, arith}
+use Rattle.std.proofs.Common.{map, sym, ◌∙◌, arith, rules}
 use Rattle.std.proofs.lemmas.List.{length-map}
 use Rattle.interfaces.specs.Cells.{number_of}
 use Rattle.text.specs.Text.{text_canon, text_means}
@@ -11,4 +11,4 @@ returns c =
     let l = a.0 in
     let m = length-map c.args.answers.now text_canon in
     grew_joined _ (text_means c.args.before) _ (map text_canon c.args.answers.now) 1
-    (insert_brings (number_of c.args.cell) c.args.answers.now _ l a.1) (omega arith) (omega arith) c.append.result c.append.ensures.means c.joined.result c.joined.ensures
+    (insert_brings (number_of c.args.cell) c.args.answers.now _ l a.1) (omega arith) (omega arith) c.append.result (search rules) c.joined.result (search rules)

@@ -1,10 +1,9 @@
 use Rattle.std.proofs.Common.{map, ap, ◌∙◌}
-use Rattle.interfaces.specs.Tasks.{gives}
 use Rattle.text.specs.Text.{text_means, text_canon}
 use Rattle.fragment_grammar.specs.Meaning.{runs}
 use Rattle.fragment_grammar.specs.Reader.{rows}
-use Rattle.fragment.proofs.Placing.{answer_row, answer_astray}
-use Rattle.fragment.proofs.Running.{blank_empty, blank_canon, step_legal, step_astray}
+use Rattle.fragment.proofs.Placing.{answer_row}
+use Rattle.fragment.proofs.Running.{blank_empty, step_legal}
 use Rattle.fragment.proofs.run.step_of.Goals as goal
 
 pub returns-in-Ok : goal.returns-in-Ok
