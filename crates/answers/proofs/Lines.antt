@@ -1,17 +1,13 @@
 -- One write after another over the front of a buffer. Assumes nothing.
-use Rattle.std.proofs.Common.{◌≡◌, ℕ, ◌+◌, ◌<◌, ◌≤◌, List, [], ◌∷◌, ◌++◌, length, get_or, take, drop, Ok, Err, Result, sym, refl, ap, ◌∙◌, arith, length-append, length-drop}
-use Rattle.std.proofs.lemmas.List.{take_all, take_more, take-append-drop, append-nil, append_assoc}
+use Rattle.std.proofs.Common.{◌≡◌, ℕ, ◌+◌, ◌<◌, ◌≤◌, List, [], ◌∷◌, ◌++◌, length, get_or, take, drop, Err, Result, sym, refl, ap, ◌∙◌, arith, length-append, length-drop}
+use Rattle.std.proofs.lemmas.List.{take_more, take-append-drop, append-nil, append_assoc}
 use Rattle.std.specs.List.{flat_map}
-use Rattle.std.proofs.lemmas.Bool.{le-leb, lt-leb}
+use Rattle.std.proofs.lemmas.Bool.{lt-leb}
 use Rattle.interfaces.specs.Refusals.{Said, no}
 use Rattle.answers.specs.Fronts.{zeros, Wrote, line_answer, line_left}
 
 pub wrote_length : {ws orig bytes : List ℕ} {len : ℕ} → Wrote ws orig bytes len → length bytes ≡ length orig
 wrote_length {ws} {orig} w = ap length w.holds ∙ (simp (length-append, length-drop) (omega (arith, w.fits)))
-
--- a finished line, by what it answers and leaves
-pub line_done : {ws orig bytes : List ℕ} {len : ℕ} → Wrote ws orig bytes len → (◌≡◌ {A = Result ℕ Said} (Ok len) (line_answer ws orig)) × (bytes ≡ line_left ws orig)
-line_done {ws} {orig} w = let t = le-leb (length ws) (length orig) w.fits in (rw t (ap Ok w.long), rw t w.holds)
 
 -- a line that was broken off
 pub line_broken : (ws orig : List ℕ) → length orig < length ws → (◌≡◌ {A = Result ℕ Said} (Err (no 10)) (line_answer ws orig)) × (zeros orig ≡ line_left ws orig)
@@ -36,9 +32,3 @@ joined_within f xs n =
     let e : flat_map f xs ≡ flat_map f (take n xs) ++ flat_map f (drop n xs) = cc in
     let l = length-append (flat_map f (take n xs)) (flat_map f (drop n xs)) in
     let m = ap length e in omega arith
-
-pub joined_all : {X : Type 0} (f : X → List ℕ) (xs : List X) (n : ℕ) → length xs ≤ n → flat_map f (take n xs) ≡ flat_map f xs
-joined_all f xs n l = ap (flat_map f) (take_all n xs l)
-
-pub wrote_none : {orig bytes : List ℕ} {len : ℕ} → Wrote [] orig bytes len → Wrote [] bytes bytes len
-wrote_none w = record { holds = refl; long = w.long; fits = omega arith }

@@ -6,7 +6,7 @@ ghost use Rattle.std.specs.List.{flat_map};
 
 use interfaces::refusal::Refusal;
 
-/// A line that is being written.
+/// A line that is being written. Lent bytes and how many are written: fixed memory, so there is no Vec.
 pub struct AnswerLine<'a> {
     bytes: &'a mut [u8],
     len: usize,

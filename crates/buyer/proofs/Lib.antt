@@ -1,3 +1,2 @@
-pub mod Panels
 pub mod Reading
 pub mod Rightly

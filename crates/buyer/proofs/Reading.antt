@@ -6,14 +6,6 @@ use Rattle.std.proofs.lemmas.Bool.{cond-true, cond-false}
 use Rattle.buyer.specs.Fallback.{is_hex_lem, may_stand_lem, right_from}
 
 module _ (text : List ℕ) (i : ℕ) (so_far : right_from 0 text ≡ i + right_from i (drop i text)) where
-  pub right_more : i < length text → may_stand_lem i (get_or text i 0) ≡ true → right_from 0 text ≡ (i + 1) + right_from (i + 1) (drop (i + 1) text)
-  right_more l h =
-      let e = at_drop_more (λ r. right_from i r) text i 0 l in
-      let f = cond-true (may_stand_lem i (get_or text i 0)) (suc (right_from (suc i) (drop (i + 1) text))) 0 h in
-      let s : suc i ≡ i + 1 = omega arith in
-      let g = ap (λ (n : ℕ). right_from n (drop (i + 1) text)) s in
-      omega arith
-
   pub right_stop : i < length text → may_stand_lem i (get_or text i 0) ≡ false → i ≡ right_from 0 text
   right_stop l h =
       let e = at_drop_more (λ r. right_from i r) text i 0 l in

@@ -1,24 +1,14 @@
-use Rattle.std.proofs.Common.{◌≡◌, ℕ, ◌+◌, ◌<◌, List, [], length, replicate, Err, refl, ap, ◌∙◌, arith, Bor, rules}
+use Rattle.std.proofs.Common.{◌≡◌, ℕ, ◌+◌, ◌<◌, List, [], length, replicate, Err, ap, ◌∙◌, arith, Bor, rules}
 use Rattle.std.specs.List.{flat_map}
 use Rattle.std.proofs.lemmas.Result.{err_from_is_err_and}
 use Rattle.interfaces.specs.Refusals.{said}
 use Rattle.answers.specs.Fronts.{line_left}
-use Rattle.answers.proofs.Lines.{wrote_none, joined_step, joined_within, joined_all, line_done, line_broken, wrote_length}
+use Rattle.answers.proofs.Lines.{joined_step, joined_within, line_broken, wrote_length}
 use Rattle.answers.proofs.line.write_line.Goals as goal
-
-pub loop-piece-init : goal.loop-piece-init
-loop-piece-init c = (wrote_none c.new-line.ensures.none, refl)
 
 -- what stands past the last piece
 nothing : Bor (List ℕ)
 nothing = record { ref_ptr = (0, 0); now = [] }
-
-pub loop-piece-preserved : goal.loop-piece-preserved
-unfolding nothing
-loop-piece-preserved c =
-    let w = c.in_ok-push.ensures.put _ _ c.loop-piece.invariant.0 in
-    let n = c.in_ok-push.ensures.lent in let m = c.loop-piece.invariant.1 in
-    (rw (joined_step (λ x. x.now) c.args.pieces.now c.loop-piece.piece-index nothing c.loop-piece-test.true) w, cc)
 
 pub returns-in_err-push : goal.returns-in_err-push
 unfolding nothing
@@ -33,13 +23,3 @@ returns-in_err-push c =
     let z : c.drop-line.new.self.0 ≡ line_left (flat_map (λ x. x.now) c.args.pieces.now) c.args.buffer.now =
     c.drop-line.ensures ∙ ap (λ n. replicate n 0) (wrote_length f.2 ∙ o) ∙ b.1 in
     record { answer = rw p.1 (ap Err (ap said p.2 ∙ f.0) ∙ b.0); left = search rules }
-
-pub returns : goal.returns
-returns c =
-    let o = c.new-line.ensures.none.holds in
-    let a = joined_all (λ x. x.now) c.args.pieces.now c.loop-piece.piece-index c.loop-piece-test.false in
-    let d = line_done c.loop-piece.invariant.0 in
-    let e0 = c.finish.ensures.0 in let e1 = c.finish.ensures.1 in
-    let d0 = d.0 in let d1 = d.1 in
-    let z : c.finish.new.self.0 ≡ line_left (flat_map (λ x. x.now) c.args.pieces.now) c.args.buffer.now = cc in
-    record { answer = cc; left = search rules }
