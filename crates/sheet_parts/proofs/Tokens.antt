@@ -1,12 +1,12 @@
 -- Numbers, digit by digit. Assumes nothing.
-use Rattle.std.proofs.Common.{◌≡◌, ℕ, ◌+◌, ◌*◌, ◌<◌, ◌≤◌, eqb, leb, List, length, get_or, drop, Ok, Err, ap, ◌∙◌, ⊎_elim, arith}
-use mathlib.Core.Option.{none, some}
-use Rattle.std.proofs.lemmas.Bool.{cases_lt, cond-true, cond-false, ne_eqb, eq-eqb, lt-leb, le-leb}
-use Rattle.std.proofs.lemmas.List.{drop_more, drop_all, get_or_past}
+use Rattle.std.proofs.Common.{◌≡◌, ℕ, ◌+◌, ◌*◌, ◌<◌, leb, List, length, get_or, drop, Err, ap, ◌∙◌, ⊎_elim, arith}
+use mathlib.Core.Option.{some}
+use Rattle.std.proofs.lemmas.Bool.{cases_lt, cond-false, lt-leb}
+use Rattle.std.proofs.lemmas.List.{drop_more, get_or_past}
 use Rattle.whole.specs.Whole.{whole_limit}
 use Rattle.formula.specs.Bytes.{digit_of}
 use Rattle.formula.proofs.Bytes.{digit_is}
-use Rattle.sheet_parts.specs.Tokens.{whole_of, one_digit, digits_from, number_from, number_in}
+use Rattle.sheet_parts.specs.Tokens.{one_digit, digits_from}
 
 -- digits
 pub byte_within : (text : List ℕ) (at : ℕ) → (get_or text at 0 ≡ 0 → ⊥) → at < length text
@@ -20,23 +20,5 @@ module _ (text : List ℕ) (at n : ℕ) where
   digits_by d e =
       ap (digits_from at n) (drop_more text at 0 (digit_within text at d e)) ∙ ap (λ o. one_digit at n o (λ m. digits_from (at + 1) m (drop (at + 1) text))) e
 
-  pub digits_more : (d : ℕ) → digit_of (get_or text at 0) ≡ some d → n * 10 + d ≤ whole_limit → digits_from at n (drop at text) ≡ digits_from (at + 1) (n * 10 + d) (drop (at + 1) text)
-  digits_more d e l = digits_by d e ∙ cond-true (leb (n * 10 + d) whole_limit) _ _ (le-leb (n * 10 + d) whole_limit l)
-
   pub digits_large : (d : ℕ) → digit_of (get_or text at 0) ≡ some d → whole_limit < n * 10 + d → digits_from at n (drop at text) ≡ Err at
   digits_large d e l = digits_by d e ∙ cond-false (leb (n * 10 + d) whole_limit) _ _ (lt-leb (n * 10 + d) whole_limit l)
-
-  pub digits_end : digit_of (get_or text at 0) ≡ none → digits_from at n (drop at text) ≡ Ok (whole_of n, at)
-  digits_end e = ⊎_elim
-      (λ l. ap (digits_from at n) (drop_more text at 0 l) ∙ ap (λ o. one_digit at n o (λ m. digits_from (at + 1) m (drop (at + 1) text))) e)
-      (λ l. ap (digits_from at n) (drop_all at text l)) (cases_lt at (length text))
-
-module _ (text : List ℕ) (at d : ℕ) (e : digit_of (get_or text at 0) ≡ some d) where
-  number_by : number_in text at ≡ number_from at (some d) (drop (at + 1) text)
-  number_by = ap (λ o. number_from at o (drop (at + 1) text)) e
-
-  pub number_zero : d ≡ 0 → number_in text at ≡ Ok (whole_of 0, at + 1)
-  number_zero z = number_by ∙ cond-true (eqb d 0) _ _ (eq-eqb d 0 z)
-
-  pub number_begins : (d ≡ 0 → ⊥) → number_in text at ≡ digits_from (at + 1) d (drop (at + 1) text)
-  number_begins n = number_by ∙ cond-false (eqb d 0) _ _ (ne_eqb d 0 n)

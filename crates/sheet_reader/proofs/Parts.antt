@@ -7,7 +7,6 @@ use Rattle.interfaces.specs.Cells.{text_limit}
 use Rattle.whole.specs.declared.Whole.{Whole}
 use Rattle.whole.specs.Whole.{whole_limit, whole_means}
 use Rattle.formula.specs.declared.byte.Operator.{Operator}
-use Rattle.formula.specs.declared.byte.Link.{Link}
 use Rattle.formula.specs.declared.byte.Link.TheVariants.{Weak, Strong, Loose}
 use Rattle.formula.specs.declared.byte.Start.TheVariants.{Negation, Group, Choice, Lookup, Total, Digit, Column, Other}
 use Rattle.formula.specs.Bytes.{link_of, column_of, start_of}
@@ -148,9 +147,6 @@ module _ (text : List ℕ) (at : ℕ) (e : start_of (get_or text at 0) ≡ Looku
     lookup_word : Spelled text (at + 1) (116 ∷ 40 ∷ []) inner
     lookup_word = spelled_ok text (at + 1) (116 ∷ 40 ∷ []) inner s
 
-    pub lookup_word_within : (at < inner) × (inner ≤ length text)
-    lookup_word_within = let l = lookup_within text at e in let n = lookup_word.next_is in (omega arith, lookup_word.fits (omega arith))
-
     lookup_inner : (w : AtFactor) → run_at text at (want w) ≡ run_at text inner (inside (in_lookup at w))
     lookup_inner w = lookup_begins w ∙ lookup_word.runs (inside (in_lookup at w))
 
@@ -178,9 +174,6 @@ module _ (text : List ℕ) (at : ℕ) (e : start_of (get_or text at 0) ≡ Choic
   module _ (inner : ℕ) (s : Ok inner ≡ spelled text (at + 1) (102 ∷ 40 ∷ [])) where
     choice_word : Spelled text (at + 1) (102 ∷ 40 ∷ []) inner
     choice_word = spelled_ok text (at + 1) (102 ∷ 40 ∷ []) inner s
-
-    pub choice_word_within : (at < inner) × (inner ≤ length text)
-    choice_word_within = let l = choice_within text at e in let n = choice_word.next_is in (omega arith, choice_word.fits (omega arith))
 
     choice_inner : (w : AtFactor) → run_at text at (want w) ≡ run_at text inner (inside (in_first w))
     choice_inner w = choice_begins w ∙ choice_word.runs (inside (in_first w))
@@ -299,15 +292,9 @@ part_missed text at byte next place answers from w p e z o = let m = missed text
   stops = λ k c. p.runs k ∙ (stop_at text next (formula_after p.tree k) (loose_step text next p.tree k e ∙ c.others p.tree (get_or text next 0) m.is_not) (c.not_end p.tree) ∙ ap fails (sym m.place_is));
 }
 
-pub part_fails : (text : List ℕ) (at byte place : ℕ) → Failed inside text at place → FailedPart text at byte place
-part_fails text at byte place f = record { stops = λ k c. f.stops k }
-
 -- factors joined
 pub term_first : (text : List ℕ) (at next : ℕ) (answers : List Whole) (from : Flow) (w : Worked) → Took want factor_after text at answers from w next → Took term_start term_after text at answers from w next
 term_first text at next answers from w p = record { tree = p.tree; runs = λ x. p.runs (first_factor x); works = p.works; onward = p.onward; fits = p.fits }
-
-pub term_first_failed : (text : List ℕ) (at place : ℕ) → Failed want text at place → Failed term_start text at place
-term_first_failed text at place f = record { stops = λ x. f.stops (first_factor x) }
 
 module _ (text : List ℕ) (at next : ℕ) (answers : List Whole) (from : Flow) (w : Worked) (o : Operator) (p : Took term_start term_after text at answers from w next) (e : link_of (get_or text next 0) ≡ Strong o) where
   term_links : (x : AtTerm) → run_at text at (term_start x) ≡ run_at text (next + 1) (want (after_product p.tree o next x))
@@ -333,9 +320,6 @@ no_strong text at n = ⊎_elim (λ l. rw (drop_more text at 0 l) n) (λ l. rw (d
 pub formula_first : (text : List ℕ) (at next : ℕ) (answers : List Whole) (from : Flow) (w : Worked) → Took term_start term_after text at answers from w next → Took inside formula_after text at answers from w next
 formula_first text at next answers from w p = record { tree = p.tree; runs = λ k. p.runs (first_term k); works = p.works; onward = p.onward; fits = p.fits }
 
-pub formula_first_failed : (text : List ℕ) (at place : ℕ) → Failed term_start text at place → Failed inside text at place
-formula_first_failed text at place f = record { stops = λ k. f.stops (first_term k) }
-
 module _ (text : List ℕ) (at next : ℕ) (answers : List Whole) (from : Flow) (w : Worked) (o : Operator) (p : Took inside formula_after text at answers from w next) (e : link_of (get_or text next 0) ≡ Weak o) where
   formula_links : (k : Around) → run_at text at (inside k) ≡ run_at text (next + 1) (term_start (after_sum p.tree o next k))
   formula_links k = p.runs k ∙ step_at_lem text next (formula_after p.tree k) (term_start (after_sum p.tree o next k)) (weak_within text next o e) (ap (link next (record { tree = p.tree; wait = first_term k }) (get_or text next 0)) e)
@@ -352,11 +336,6 @@ module _ (text : List ℕ) (at next : ℕ) (answers : List Whole) (from : Flow) 
     onward = let a = p.onward in let b = q.onward in omega arith;
     fits = q.fits;
   }
-
-pub neither : (l : Link) → ((o : Operator) → l ≡ Weak o → ⊥) → ((o : Operator) → l ≡ Strong o → ⊥) → l ≡ Loose
-neither (Weak o) m n = absurd (m o refl)
-neither (Strong o) m n = absurd (n o refl)
-neither Loose m n = refl
 
 -- a text goes wrong no later than at its end
 ended_at : (at : ℕ) (o : Option Tree) (p : ℕ) → ended at o ≡ fails p → p ≤ at
@@ -392,6 +371,3 @@ whole_left text answers w next b p e l = failed_short text next b
 
 pub whole_fails : (text : List ℕ) (place : ℕ) → length text ≤ text_limit → Failed inside text 0 place → WholeFailed text place
 whole_fails text place b f = failed_short text place b (f.stops whole)
-
-pub whole_long : (text : List ℕ) → text_limit < length text → WholeFailed text text_limit
-whole_long text l = record { short = λ k. absurd (omega arith); long = λ k. refl; fits = omega arith }

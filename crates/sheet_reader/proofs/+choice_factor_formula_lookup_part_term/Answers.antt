@@ -1,19 +1,9 @@
-use Rattle.std.proofs.Common.{◌<◌, length, get_or, sym, ◌∙◌, arith}
+use Rattle.std.proofs.Common.{◌<◌, sym, arith}
 use Rattle.std.proofs.lemmas.Result.{err_from_is_err_and, MatchResult-weaker}
-use Rattle.formula.specs.Bytes.{link_of}
-use Rattle.sheet_reader.proofs.Parts.{choice_within, lookup_within, group_within, negation_within, weak_within, strong_within, lookup_word_failed, lookup_word_within, lookup_part_failed, lookup_took, choice_word_failed, choice_word_within, choice_first_failed, choice_second_failed, choice_third_failed, choice_took, negation_took, negation_failed, group_took, group_failed, number_took, number_failed, name_took, cell_failed, other_failed, part_took, part_missed, part_fails, term_first, term_first_failed, term_more, term_more_failed, formula_first, formula_first_failed, formula_more, formula_more_failed, neither}
+use Rattle.sheet_reader.proofs.Parts.{weak_within, strong_within, lookup_word_failed, lookup_part_failed, lookup_took, choice_word_failed, choice_first_failed, choice_second_failed, choice_third_failed, choice_took, negation_took, negation_failed, group_took, group_failed, number_took, number_failed, name_took, cell_failed, other_failed, part_took, part_missed, term_first, term_more, term_more_failed, formula_first, formula_more, formula_more_failed}
 use Rattle.sheet_reader.proofs.+choice_factor_formula_lookup_part_term.Goals as goal
 
 -- `if`
-pub choice-overflow_add-at : goal.choice-overflow_add-at
-choice-overflow_add-at t c = let l : c.args.at < length c.args.text.now = choice_within c.args.text.now c.args.at c.requires.0 in omega arith
-
-pub choice-part-requires : goal.choice-part-requires
-choice-part-requires t c =
-    let l = choice_within c.args.text.now c.args.at c.requires.0 in
-    let w = choice_word_within c.args.text.now c.args.at c.requires.0 _ c.in_ok-first.ensures in
-    let w₀ = w.0 in let w₁ = w.1 in (omega arith, (omega arith, (c.requires.1, omega arith)))
-
 pub choice-returns-in_err-first : goal.choice-returns-in_err-first
 choice-returns-in_err-first t c = let p = err_from_is_err_and c.from_residual.result c.from_residual.ensures.1 in rw (p.1, p.2)
     (choice_word_failed c.args.text.now c.args.at c.requires.0 _ c.in_err-first.ensures)
@@ -34,15 +24,6 @@ pub choice-returns : goal.choice-returns
 choice-returns t c = choice_took c.args.text.now c.args.at c.requires.0 _ c.in_ok-first.ensures c.args.answers.now c.args.from _ c.in_ok-test.test _ c.in_ok-test.ensures c.flow_after-then.ensures c.in_ok-yes.yes _ c.in_ok-yes.ensures c.in_ok-no.no _ c.in_ok-no.ensures c.choose.result (c.choose.ensures c.args.answers.now)
 
 -- `at`
-pub lookup-overflow_add-at : goal.lookup-overflow_add-at
-lookup-overflow_add-at t c = let l : c.args.at < length c.args.text.now = lookup_within c.args.text.now c.args.at c.requires.0 in omega arith
-
-pub lookup-part-requires : goal.lookup-part-requires
-lookup-part-requires t c =
-    let l = lookup_within c.args.text.now c.args.at c.requires.0 in
-    let w = lookup_word_within c.args.text.now c.args.at c.requires.0 _ c.in_ok-first.ensures in
-    let w₀ = w.0 in let w₁ = w.1 in (omega arith, (omega arith, (c.requires.1, omega arith)))
-
 pub lookup-returns-in_err-first : goal.lookup-returns-in_err-first
 lookup-returns-in_err-first t c = let p = err_from_is_err_and c.from_residual.result c.from_residual.ensures.1 in rw (p.1, p.2)
     (lookup_word_failed c.args.text.now c.args.at c.requires.0 _ c.in_err-first.ensures)
@@ -55,12 +36,6 @@ pub lookup-returns : goal.lookup-returns
 lookup-returns t c = lookup_took c.args.text.now c.args.at c.requires.0 _ c.in_ok-first.ensures _ c.args.answers.now c.args.from c.in_ok-place.place c.look_up.result c.in_ok-place.ensures c.look_up.ensures
 
 -- factors
-pub factor-factor-requires : goal.factor-factor-requires
-factor-factor-requires t c = let l = negation_within c.args.text.now c.args.at (sym c.in-Negation.ensures) in (omega arith, (omega arith, c.requires.1))
-
-pub factor-part-requires : goal.factor-part-requires
-factor-part-requires t c = let l = group_within c.args.text.now c.args.at (sym c.in-Group.ensures) in (omega arith, (omega arith, (c.requires.1, omega arith)))
-
 pub factor-returns-in_err-operand-in-Negation : goal.factor-returns-in_err-operand-in-Negation
 factor-returns-in_err-operand-in-Negation t c = let p = err_from_is_err_and c.from_residual.result c.from_residual.ensures.1 in rw (p.1, p.2)
     (negation_failed c.args.text.now c.args.at _ (sym c.in-Negation.ensures) c.in_err-operand-in-Negation.ensures)
@@ -90,10 +65,6 @@ pub factor-returns-in-Other : goal.factor-returns-in-Other
 factor-returns-in-Other t c = other_failed c.args.text.now c.args.at (sym c.in-Other.ensures)
 
 -- a formula and the byte that ends it
-pub part-returns-in_err-got : goal.part-returns-in_err-got
-part-returns-in_err-got t c = let p = err_from_is_err_and c.from_residual.result c.from_residual.ensures.1 in rw (p.1, p.2)
-    (part_fails c.args.text.now c.args.at c.args.byte _ c.in_err-got.ensures)
-
 pub part-returns-in_err-end : goal.part-returns-in_err-end
 part-returns-in_err-end t c = let p = err_from_is_err_and c.from_residual-in_err-end.result c.from_residual-in_err-end.ensures.1 in rw (p.1, p.2)
     (part_missed c.args.text.now c.args.at c.args.byte c.in_ok-got.next _ c.args.answers.now c.args.from c.in_ok-got.got c.in_ok-got.ensures.0 c.in_ok-got.ensures.1 c.requires.1.1 c.in_err-end.ensures)
@@ -102,16 +73,6 @@ pub part-returns : goal.part-returns
 part-returns t c = part_took c.args.text.now c.args.at c.args.byte c.in_ok-got.next _ c.args.answers.now c.args.from c.in_ok-got.got c.in_ok-got.ensures.0 c.in_ok-got.ensures.1 c.requires.1.1 c.in_ok-end.ensures
 
 -- factors joined
-pub term-returns-in_err-product : goal.term-returns-in_err-product
-term-returns-in_err-product t c = let p = err_from_is_err_and c.from_residual.result c.from_residual.ensures.1 in rw (p.1, p.2)
-    (term_first_failed c.args.text.now c.args.at _ c.in_err-product.ensures)
-
-pub term-loop-operator-init : goal.term-loop-operator-init
-term-loop-operator-init t c = λ from p. p
-
-pub term-overflow_add-next : goal.term-overflow_add-next
-term-overflow_add-next t c = let l : c.loop-operator.next < length c.args.text.now = strong_within c.args.text.now c.loop-operator.next _ (sym c.in-Strong.ensures) in omega arith
-
 pub term-factor-requires-in-Strong : goal.term-factor-requires-in-Strong
 term-factor-requires-in-Strong t c = let l = strong_within c.args.text.now c.loop-operator.next _ (sym c.in-Strong.ensures) in
     let k : c.args.at < c.loop-operator.next = (c.loop-operator.invariant c.args.from (term_first c.args.text.now c.args.at c.in_ok-product.next c.args.answers.now c.args.from c.in_ok-product.product c.in_ok-product.ensures)).onward in (omega arith, (omega arith, c.requires.1))
@@ -124,20 +85,7 @@ pub term-loop-operator-preserved : goal.term-loop-operator-preserved
 term-loop-operator-preserved t c = λ from p.
     term_more c.args.text.now c.args.at c.loop-operator.next c.args.answers.now from c.loop-operator.product c.in-Strong.operator (c.loop-operator.invariant from p) (sym c.in-Strong.ensures) _ _ c.in_ok-right.right c.operate-product.result c.flow_after.ensures c.in_ok-right.ensures (c.operate-product.ensures c.args.answers.now)
 
-pub term-returns : goal.term-returns
-term-returns t c = ((c.loop-operator.invariant c.args.from (term_first c.args.text.now c.args.at c.in_ok-product.next c.args.answers.now c.args.from c.in_ok-product.product c.in_ok-product.ensures)), λ o e. c.in_default.not-Strong o (c.link_at.ensures ∙ e))
-
 -- terms joined
-pub formula-returns-in_err-left : goal.formula-returns-in_err-left
-formula-returns-in_err-left t c = let p = err_from_is_err_and c.from_residual.result c.from_residual.ensures.1 in rw (p.1, p.2)
-    (formula_first_failed c.args.text.now c.args.at _ c.in_err-left.ensures)
-
-pub formula-loop-operator-init : goal.formula-loop-operator-init
-formula-loop-operator-init t c = ((λ from p. p), c.in_ok-left.ensures.1)
-
-pub formula-overflow_add-next : goal.formula-overflow_add-next
-formula-overflow_add-next t c = let l : c.loop-operator.next < length c.args.text.now = weak_within c.args.text.now c.loop-operator.next _ (sym c.in-Weak.ensures) in omega arith
-
 pub formula-returns-in_err-right : goal.formula-returns-in_err-right
 formula-returns-in_err-right t c = let p = err_from_is_err_and c.from_residual-in_err-right.result c.from_residual-in_err-right.ensures.1 in rw (p.1, p.2)
     (formula_more_failed c.args.text.now c.args.at c.loop-operator.next c.args.answers.now c.args.from c.loop-operator.left c.in-Weak.operator (c.loop-operator.invariant.0 c.args.from (formula_first c.args.text.now c.args.at c.in_ok-left.next c.args.answers.now c.args.from c.in_ok-left.left c.in_ok-left.ensures.0)) (sym c.in-Weak.ensures) _ c.in_err-right.ensures)
@@ -147,9 +95,6 @@ formula-loop-operator-preserved t c = (
   (λ from p. formula_more c.args.text.now c.args.at c.loop-operator.next c.args.answers.now from c.loop-operator.left c.in-Weak.operator (c.loop-operator.invariant.0 from p) (sym c.in-Weak.ensures) _ _ c.in_ok-right.right c.operate-left.result c.flow_after.ensures c.in_ok-right.ensures.0 c.in_ok-right.ensures.1 (c.operate-left.ensures c.args.answers.now)),
   c.in_ok-right.ensures.1,
 )
-
-pub formula-returns : goal.formula-returns
-formula-returns t c = ((c.loop-operator.invariant.0 c.args.from (formula_first c.args.text.now c.args.at c.in_ok-left.next c.args.answers.now c.args.from c.in_ok-left.left c.in_ok-left.ensures.0)), neither (link_of (get_or c.args.text.now c.loop-operator.next 0)) (λ o e. c.in_default.not-Weak o (c.link_at.ensures ∙ e)) c.loop-operator.invariant.1)
 
 pub formula-term-requires-in-Weak : goal.formula-term-requires-in-Weak
 formula-term-requires-in-Weak t c = let l = weak_within c.args.text.now c.loop-operator.next _ (sym c.in-Weak.ensures) in

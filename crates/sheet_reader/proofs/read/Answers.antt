@@ -1,5 +1,5 @@
 use Rattle.std.proofs.lemmas.Result.{err_from_is_err_and}
-use Rattle.sheet_reader.proofs.Parts.{whole_took, whole_left, whole_fails, whole_long}
+use Rattle.sheet_reader.proofs.Parts.{whole_took, whole_left, whole_fails}
 use Rattle.sheet_reader.proofs.read.Goals as goal
 
 pub returns-in_err-got : goal.returns-in_err-got
@@ -12,6 +12,3 @@ returns-then-next-text c =
 
 pub returns : goal.returns
 returns c = whole_took c.args.text.now c.args.answers.now c.in_ok-got.got _ c.if-text-gt-TEXT.false c.in_ok-got.ensures.0 c.if-next-text.false
-
-pub returns-then-text-gt-TEXT : goal.returns-then-text-gt-TEXT
-returns-then-text-gt-TEXT c = whole_long c.args.text.now c.if-text-gt-TEXT.true

@@ -1,14 +1,6 @@
-use Rattle.std.proofs.Common.{◌<◌, length, arith}
 use Rattle.std.proofs.lemmas.Result.{err_from_is_err_and}
-use Rattle.sheet_reader.proofs.Parts.{total_within, sum_word_failed, sum_name_failed, sum_comma_failed, sum_count_failed, sum_close_failed, sum_within, sum_took}
+use Rattle.sheet_reader.proofs.Parts.{sum_word_failed, sum_name_failed, sum_comma_failed, sum_count_failed, sum_close_failed, sum_took}
 use Rattle.sheet_reader.proofs.sum.Goals as goal
-
-pub overflow_add-at : goal.overflow_add-at
-overflow_add-at c = let l : c.args.at < length c.args.text.now = total_within c.args.text.now c.args.at c.requires.0 in omega arith
-
-pub overflow_add-counted : goal.overflow_add-counted
-overflow_add-counted c =
-    let l : c.in_ok-counted.counted < length c.args.text.now = sum_within c.args.text.now c.args.at c.requires.0 _ c.in_ok-inner.ensures _ _ c.in_ok-first.ensures _ c.in_ok-counted.ensures _ _ c.in_ok-cells.ensures in omega arith
 
 pub returns-in_err-inner : goal.returns-in_err-inner
 returns-in_err-inner c = let p = err_from_is_err_and c.from_residual.result c.from_residual.ensures.1 in rw (p.1, p.2)
