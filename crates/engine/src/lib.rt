@@ -6,18 +6,19 @@ ghost use Rattle.interfaces.specs.Cells.{number_of};
 ghost use Rattle.interfaces.specs.Refusals.{told};
 ghost use Rattle.past.specs.Past.{edit as Edits, define as Defines, clear as Clears, start};
 ghost use Rattle.view.specs.View.{Shows};
-ghost use Rattle.parts.specs.Shown.{view_of};
 ghost use Rattle.scheduler.specs.Promise.{Comes};
 ghost use Rattle.engine.specs.Promise.{Promise};
+ghost use Rattle.engine.specs.Shown.{shown_by};
 ghost use Rattle.engine.specs.Given.{given_of, ReadAs};
 
-use interfaces::{Cell, Language, Printed, Rebuilder, Refusal, Store, Value};
+use interfaces::{Asked, Cell, Language, Printed, Rebuilder, Refusal, Store, Value};
 use parts::Parts;
 use scheduler::{Answer, Ran, query};
 use std::marker::PhantomData;
 use table::{Record, Table};
 
 /// A workbook of one kind of value.
+// It has no Model: a refused query leaves the parts themselves as they were, and a Model would show no parts.
 #[derive(Drop)]
 pub struct Workbook<V, S, L, R> {
     pub parts: Parts<S, L, R>,
@@ -27,7 +28,7 @@ pub struct Workbook<V, S, L, R> {
 impl<V: Value, S: Store<V>, L: Language<V>, R: Rebuilder<V>> Workbook<V, S, L, R> {
     /// Makes a workbook: every cell is an input, with the value that the store has for it.
     pub fn new(store: S, mut language: L, mut rebuilder: R) -> Workbook<V, S, L, R>
-        ensures { Shows V.Value.blank (S.Store.locked store) R.Rebuilder.depth (start (λ k. V.Value.canon (S.Store.shows store k))) (view_of V.Value.canon S.Store.shows S.Store.locked L.Language.means R.Rebuilder.traces result.parts) }
+        ensures { Shows V.Value.blank (S.Store.locked store) R.Rebuilder.depth (start (λ k. V.Value.canon (S.Store.shows store k))) (shown_by V.Value S.Store L.Language R.Rebuilder result) }
     {
         language.wipe();
         rebuilder.wipe();
@@ -45,27 +46,23 @@ impl<V: Value, S: Store<V>, L: Language<V>, R: Rebuilder<V>> Workbook<V, S, L, R
 
     /// Gives an input a value. A value that means the same as before touches nothing.
     pub fn edit(&mut self, cell: Cell, value: V) -> Result<(), Refusal>
-        ensures { Promise V.Value.canon V.Value.blank S.Store.shows S.Store.locked L.Language.means L.Language.stands R.Rebuilder.traces R.Rebuilder.depth self.old.parts self.new.parts (Edits (number_of cell) (Ok (V.Value.canon value))) (told result) }
+        ensures { Promise V.Value S.Store L.Language R.Rebuilder self.old self.new (Edits (number_of cell) (Ok (V.Value.canon value))) (told result) }
     {
         self.give(cell, Ok(value))
     }
 
     // Gives an input a value, or refuses what is none; that the cell is defined or locked is looked for first.
     fn give(&mut self, cell: Cell, given: Result<V, Refusal>) -> Result<(), Refusal>
-        ensures { Promise V.Value.canon V.Value.blank S.Store.shows S.Store.locked L.Language.means L.Language.stands R.Rebuilder.traces R.Rebuilder.depth self.old.parts self.new.parts (Edits (number_of cell) (given_of V.Value.canon given)) (told result) }
+        ensures { Promise V.Value S.Store L.Language R.Rebuilder self.old self.new (Edits (number_of cell) (given_of V.Value.canon given)) (told result) }
     {
         let row = self.parts.table.get(cell);
         if row.defined {
             return Err(Refusal::DefinedCell);
         }
-        let locked = self.parts.store.is_locked(cell);
-        if locked {
+        if self.parts.store.is_locked(cell) {
             return Err(Refusal::LockedCell);
         }
-        let value = match given {
-            Ok(value) => value,
-            Err(refusal) => return Err(refusal),
-        };
+        let value = given?;
         let before = self.parts.store.read(cell);
         if value.is_like(&before) {
             return Ok(());
@@ -77,7 +74,7 @@ impl<V: Value, S: Store<V>, L: Language<V>, R: Rebuilder<V>> Workbook<V, S, L, R
 
     /// Places a definition: the cell has no traces and no asked cells, and is in doubt by itself.
     pub fn define(&mut self, cell: Cell, text: &[u8]) -> Result<(), Refusal>
-        ensures { Promise V.Value.canon V.Value.blank S.Store.shows S.Store.locked L.Language.means L.Language.stands R.Rebuilder.traces R.Rebuilder.depth self.old.parts self.new.parts (Defines (number_of cell) text.now) (told result) }
+        ensures { Promise V.Value S.Store L.Language R.Rebuilder self.old self.new (Defines (number_of cell) text.now) (told result) }
     {
         let mut row = self.parts.table.get(cell);
         if self.parts.store.is_locked(cell) {
@@ -88,21 +85,20 @@ impl<V: Value, S: Store<V>, L: Language<V>, R: Rebuilder<V>> Workbook<V, S, L, R
         self.parts.table.mark(cell);
         row.defined = true;
         row.cause = Some(cell);
-        row.count = 0;
+        row.asked = Asked::new(&[]);
         self.parts.table.change(cell, row);
         Ok(())
     }
 
     /// Removes a definition: the cell is an input again, with the blank.
     pub fn clear(&mut self, cell: Cell) -> Result<(), Refusal>
-        ensures { Promise V.Value.canon V.Value.blank S.Store.shows S.Store.locked L.Language.means L.Language.stands R.Rebuilder.traces R.Rebuilder.depth self.old.parts self.new.parts (Clears (number_of cell)) (told result) }
+        ensures { Promise V.Value S.Store L.Language R.Rebuilder self.old self.new (Clears (number_of cell)) (told result) }
     {
         let row = self.parts.table.get(cell);
         if !row.defined {
             return Err(Refusal::UndefinedCell);
         }
-        let blank = V::blank_value();
-        self.parts.store.write(cell, blank)?;
+        self.parts.store.write(cell, V::blank_value())?;
         self.parts.language.remove(cell);
         self.parts.rebuilder.forget(cell);
         self.parts.table.mark(cell); // whatever the value was
@@ -112,6 +108,7 @@ impl<V: Value, S: Store<V>, L: Language<V>, R: Rebuilder<V>> Workbook<V, S, L, R
 
     /// The value of a cell, or its fault, as working out afresh gives it. The report list has in front the runs that
     /// it took, and the chain list the chain of a fault; the working list is free.
+    // The three lists are no struct: a caller would make one for each call and take it apart to read the report.
     pub fn query(
         &mut self,
         cell: Cell,
@@ -125,8 +122,8 @@ impl<V: Value, S: Store<V>, L: Language<V>, R: Rebuilder<V>> Workbook<V, S, L, R
               lent = record { report = length report.entry.now; chain = length chain.old; work = length work.old };
               parts_before = self.old.parts;
               parts_after = self.new.parts;
-              view_before = view_of V.Value.canon S.Store.shows S.Store.locked L.Language.means R.Rebuilder.traces self.old.parts;
-              view_after = view_of V.Value.canon S.Store.shows S.Store.locked L.Language.means R.Rebuilder.traces self.new.parts;
+              view_before = shown_by V.Value S.Store L.Language R.Rebuilder self.old;
+              view_after = shown_by V.Value S.Store L.Language R.Rebuilder self.new;
               report_before = report.entry.now;
               report_after = report.exit.now;
               chain_before = chain.old;
@@ -142,9 +139,8 @@ impl<V: Value, S: Store<V>, L: Language<V>, R: Rebuilder<V>> Workbook<V, S, L, R
 impl<V: Printed, S: Store<V>, L: Language<V>, R: Rebuilder<V>> Workbook<V, S, L, R> {
     /// Gives an input the value that the bytes are written for.
     pub fn edit_written(&mut self, cell: Cell, bytes: &[u8]) -> Result<(), Refusal>
-        ensures { ReadAs V.Value.canon V.Printed.written V.Printed.unread bytes.now (λ given. Promise V.Value.canon V.Value.blank S.Store.shows S.Store.locked L.Language.means L.Language.stands R.Rebuilder.traces R.Rebuilder.depth self.old.parts self.new.parts (Edits (number_of cell) given) (told result)) }
+        ensures { ReadAs V.Value.canon V.Printed.written V.Printed.unread bytes.now (λ given. Promise V.Value S.Store L.Language R.Rebuilder self.old self.new (Edits (number_of cell) given) (told result)) }
     {
-        let given = V::read(bytes);
-        self.give(cell, given)
+        self.give(cell, V::read(bytes))
     }
 }

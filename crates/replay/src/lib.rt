@@ -6,7 +6,7 @@ ghost use Rattle.std.specs.Prelude.{◌≡◌, map, length};
 ghost use Rattle.interfaces.specs.Cells.{cell_count, number_of};
 ghost use Rattle.interfaces.specs.Refusals.{told};
 ghost use Rattle.past.specs.Past.{query as Queries};
-ghost use Rattle.calls.specs.Answers.{Answers};
+ghost use Rattle.engine.specs.Promise.{Promise};
 ghost use Rattle.engine.specs.Shown.{shown_by};
 ghost use Rattle.replay.specs.Replays.{request_of, Performs, Replays};
 
@@ -37,9 +37,8 @@ fn pass<V: Value, S: Store<V>, L: Language<V>, R: Rebuilder<V>>(
     cell: Cell,
     work: &mut [V],
 ) -> Result<(), Refusal>
-    ensures { Answers V.Value.blank L.Language.stands R.Rebuilder.depth (Queries (number_of cell) (record { report = cell_count; chain = cell_count; work = length work.old })) (told result)
-        (shown_by V.Value.canon S.Store.shows S.Store.locked L.Language.means R.Rebuilder.traces workbook.old)
-        (shown_by V.Value.canon S.Store.shows S.Store.locked L.Language.means R.Rebuilder.traces workbook.new) }
+    ensures { Promise V.Value S.Store L.Language R.Rebuilder workbook.old workbook.new
+        (Queries (number_of cell) (record { report = cell_count; chain = cell_count; work = length work.old })) (told result) }
 {
     let mut report = [Ran { cell, cause: cell }; CELLS];
     let mut chain = [cell; CELLS];
@@ -53,9 +52,7 @@ fn perform<V: Value, S: Store<V>, L: Language<V>, R: Rebuilder<V>>(
     call: &Call<'_, V>,
     work: &mut [V],
 ) -> Result<(), Refusal>
-    ensures { Answers V.Value.blank L.Language.stands R.Rebuilder.depth (request_of V.Value.canon (length work.old) call.now) (told result)
-        (shown_by V.Value.canon S.Store.shows S.Store.locked L.Language.means R.Rebuilder.traces workbook.old)
-        (shown_by V.Value.canon S.Store.shows S.Store.locked L.Language.means R.Rebuilder.traces workbook.new) }
+    ensures { Promise V.Value S.Store L.Language R.Rebuilder workbook.old workbook.new (request_of V.Value.canon (length work.old) call.now) (told result) }
 {
     match call {
         Call::Edit(cell, value) => workbook.edit(*cell, *value),
@@ -72,8 +69,8 @@ pub fn perform_all<V: Value, S: Store<V>, L: Language<V>, R: Rebuilder<V>>(
     work: &mut [V],
 )
     ensures { Performs V.Value.blank L.Language.stands R.Rebuilder.depth (map (request_of V.Value.canon (length work.old)) calls.now)
-        (shown_by V.Value.canon S.Store.shows S.Store.locked L.Language.means R.Rebuilder.traces workbook.old)
-        (shown_by V.Value.canon S.Store.shows S.Store.locked L.Language.means R.Rebuilder.traces workbook.new) }
+        (shown_by V.Value S.Store L.Language R.Rebuilder workbook.old)
+        (shown_by V.Value S.Store L.Language R.Rebuilder workbook.new) }
 {
     for call in calls {
         let _ = perform(workbook, call, work);
@@ -95,7 +92,7 @@ pub fn replay<V: Value, S: Store<V>, L: Language<V>, R: Rebuilder<V>>(
         (λ k. V.Value.canon (S.Store.shows store k)) (map (request_of V.Value.canon (length work.old)) calls.now)
         (Queries (number_of last) (record { report = length report.entry.now; chain = length chain.old; work = length work.old }))
         (record { report_before = report.entry.now; report_after = report.exit.now; chain_before = chain.old; chain_after = chain.new })
-        result.answer (shown_by V.Value.canon S.Store.shows S.Store.locked L.Language.means R.Rebuilder.traces result.workbook) }
+        result.answer (shown_by V.Value S.Store L.Language R.Rebuilder result.workbook) }
 {
     let mut workbook = Workbook::new(store, language, rebuilder);
     perform_all(&mut workbook, calls, work);
