@@ -30,9 +30,9 @@ pub fn end_doubt<V: Value, S: Store<V>, L: Language<V>, R: Rebuilder<V>>(
     parts.table.change(
         cell,
         Record {
-            defined: row.defined,
             cause: None,
             asked,
+            ..row
         },
     );
 }

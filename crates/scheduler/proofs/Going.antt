@@ -1,6 +1,6 @@
 -- How far following a cell has come, and each way on from there.
-use Rattle.std.proofs.Common.{◌≡◌, ℕ, ◌+◌, ◌≤◌, Bool, true, false, List, [], ◌∷◌, ◌++◌, map, length, take, Ok, Err, Result, Option as Maybe, sym, refl, ap, ◌∙◌, subst, arith}
-use mathlib.Core.Option.{Option, none}
+use Rattle.std.proofs.Common.{◌≡◌, ℕ, ◌≤◌, Bool, true, false, List, [], ◌∷◌, ◌++◌, map, length, take, Ok, Err, Result, Option as Maybe, sym, refl, ap, ◌∙◌, subst, arith}
+use mathlib.Core.Option.{none}
 use Rattle.std.proofs.Math.Seq.{take-length}
 use Rattle.std.proofs.lemmas.List.{length-take, length-take-le}
 use Rattle.interfaces.specs.declared.asked.Asked.{Asked}
@@ -20,7 +20,7 @@ use Rattle.moves.specs.declared.turns.Turn.{Turn}
 use Rattle.moves.specs.declared.turns.Turn.TheVariants.{Done, Begin, Ask}
 use Rattle.moves.specs.Moves.{turn_means, move_of, fault_number, AskChecked, Concludes, Joins, reported}
 use Rattle.scheduler.specs.Outcomes.{outcome_of, layer_of}
-use Rattle.scheduler.specs.Settling.{Leaves, Settles, Follows}
+use Rattle.scheduler.specs.Settling.{Settles, Follows}
 use Rattle.scheduler.proofs.Reporting.{pairs_on}
 use Rattle.scheduler.proofs.Turning.{Wants, Ends, wants_is, ends_is, begins_is, fails_is}
 use Rattle.scheduler.proofs.Stepping.{follows_as}
@@ -72,32 +72,25 @@ module _ {V : Type 0} (blank : V) (kept : ℕ) (same : (v w : V) → Dec (v ≡ 
   asks_for : (a : Cell) (t : Turn V) → t ≡ Ask a → Turned (Ok t) → Wants (w.traces (number_of cell)) step pairs running (number_of a)
   asks_for a t i e = subst (λ z. Wants z step pairs running (number_of a)) (sym traces) (wants_is canon alike sound whole steady ts cs vs len cell chain step running a t i e)
 
-  -- a fault goes up with the path as its chain
-  sinks : (before after : List Cell) (w' : View V) (ran' : ℕ) (list' : List Ran) (f : Fault) (r : Result V Fault) → r ≡ Err f → f.chain ≡ length after
-      → Comes w' ran' list' (outcome_of canon after (Err f)) → Leaves before after r × Comes w' ran' list' (outcome_of canon after r)
-  sinks before after w' ran' list' f r e n k = subst (λ z. Leaves before after z × Comes w' ran' list' (outcome_of canon after z)) (sym e) (n, k)
-
-  pub step_faults : (before : List Cell) (f : Fault) (r : Result V Fault) → r ≡ Err f → chain ≡ length path → Turned (Err f) → Leaves before path r × Comes w report.ran report.list.now (outcome_of canon path r)
-  step_faults before f r q long e =
+  pub step_faults : (f : Fault) (r : Result V Fault) → r ≡ Err f → chain ≡ length path → Turned (Err f) → Comes w report.ran report.list.now (outcome_of canon path r)
+  step_faults f r q long e =
       let u = fails_is canon alike sound whole steady ts cs vs len cell chain step running f e in
-      sinks before path w report.ran report.list.now f r q (ap (λ z. z.chain) u.1 ∙ long)
-      (follows_as blank kept w w (map number_of path) (number_of cell) pairs running report.ran report.list.now report.ran report.list.now
-      (sym (ap (λ z. outcome_of canon path (Err z)) u.1 ∙ ap (λ n. fault f.number f.mark (number_of cell) language (map number_of (take n path))) long ∙ ap (λ z. fault f.number f.mark (number_of cell) language (map number_of z)) (take-length path)))
-      (steps.fails blank kept same canon w (map number_of path) (number_of cell) cs vs len running f.number f.mark report.ran report.list.now u.0))
+      follows_as blank kept w w (map number_of path) (number_of cell) pairs running report.ran report.list.now report.ran report.list.now
+      (sym (ap (outcome_of canon path) q ∙ ap (λ z. outcome_of canon path (Err z)) u.1 ∙ ap (λ n. fault f.number f.mark (number_of cell) language (map number_of (take n path))) long ∙ ap (λ z. fault f.number f.mark (number_of cell) language (map number_of z)) (take-length path)))
+      (steps.fails blank kept same canon w (map number_of path) (number_of cell) cs vs len running f.number f.mark report.ran report.list.now u.0)
 
-  pub ask_faults : (before : List Cell) (a : Cell) (t : Turn V) (f : Fault) (r : Result V Fault) → r ≡ Err f → t ≡ Ask a → Turned (Ok t) → Checked a (Err f)
-      → Leaves before path r × Comes w report.ran report.list.now (outcome_of canon path r)
-  ask_faults before a t f r q i e (b, h, k) =
-      sinks before path w report.ran report.list.now f r q (ap (λ z. z.chain) k)
-      (follows_as blank kept w w (map number_of path) (number_of cell) pairs running report.ran report.list.now report.ran report.list.now
-      (sym (ap (λ z. outcome_of canon path (Err z)) k ∙ ap (λ z. fault (fault_number b) (number_of a) (number_of cell) engine (map number_of z)) (take-length path)))
-      (steps.ask_fails blank kept same canon w (map number_of path) (number_of cell) cs vs len running (number_of a) b report.ran report.list.now (asks_for a t i e) h))
+  pub ask_faults : (a : Cell) (t : Turn V) (f : Fault) (r : Result V Fault) → r ≡ Err f → t ≡ Ask a → Turned (Ok t) → Checked a (Err f)
+      → Comes w report.ran report.list.now (outcome_of canon path r)
+  ask_faults a t f r q i e (b, h, k) =
+      follows_as blank kept w w (map number_of path) (number_of cell) pairs running report.ran report.list.now report.ran report.list.now
+      (sym (ap (outcome_of canon path) q ∙ ap (λ z. outcome_of canon path (Err z)) k ∙ ap (λ z. fault (fault_number b) (number_of a) (number_of cell) engine (map number_of z)) (take-length path)))
+      (steps.ask_fails blank kept same canon w (map number_of path) (number_of cell) cs vs len running (number_of a) b report.ran report.list.now (asks_for a t i e) h)
 
-  pub below_faults : (before : List Cell) (a : Cell) (t : Turn V) (w' : View V) (after : List Cell) (report' : Report) (f : Fault) (r : Result V Fault) → r ≡ Err f → t ≡ Ask a → Turned (Ok t) → Checked a (Ok tt)
-      → f.chain ≡ length after → Settles blank kept w w' (map number_of path) (number_of a) report.ran report.list.now report'.ran report'.list.now (outcome_of canon after (Err f))
-      → Leaves before after r × Comes w' report'.ran report'.list.now (outcome_of canon after r)
-  below_faults before a t w' after report' f r q i e k n s =
-      sinks before after w' report'.ran report'.list.now f r q n
+  pub below_faults : (a : Cell) (t : Turn V) (w' : View V) (after : List Cell) (report' : Report) (f : Fault) (r : Result V Fault) → r ≡ Err f → t ≡ Ask a → Turned (Ok t) → Checked a (Ok tt)
+      → Settles blank kept w w' (map number_of path) (number_of a) report.ran report.list.now report'.ran report'.list.now (outcome_of canon after (Err f))
+      → Comes w' report'.ran report'.list.now (outcome_of canon after r)
+  below_faults a t w' after report' f r q i e k s =
+      follows_as blank kept w w' (map number_of path) (number_of cell) pairs running report.ran report.list.now report'.ran report'.list.now (ap (outcome_of canon after) (sym q))
       (steps.sinks blank kept same canon w (map number_of path) (number_of cell) cs vs len running (number_of a) w' report.ran report.list.now report'.ran report'.list.now
       f.number f.mark (number_of f.cell) (layer_of f.layer) (map number_of (take f.chain after)) (asks_for a t i e) k.0 k.1 s)
 

@@ -1,5 +1,5 @@
 -- A query, by the settling of its cell.
-use Rattle.std.proofs.Common.{◌≡◌, ℕ, ◌<◌, ◌≤◌, Bool, ◌⊎◌, List, [], ◌∷◌, ◌++◌, map, length, take, drop, Ok, Err, sym, refl, ap, ◌∙◌, subst, inl, inr, arith, take_all}
+use Rattle.std.proofs.Common.{◌≡◌, ℕ, ◌<◌, ◌≤◌, Bool, ◌⊎◌, List, [], ◌++◌, map, length, take, drop, Ok, Err, sym, refl, ap, ◌∙◌, subst, inl, inr, arith, take_all}
 use native.Mathlib.Decide.{dec_lt}
 use Rattle.std.proofs.Math.Seq.{take-append_seam, drop-append_seam}
 use Rattle.std.proofs.lemmas.List.{length-map, length-take}
@@ -9,19 +9,17 @@ use Rattle.interfaces.specs.Cells.{cell_count, work_length, number_of}
 use Rattle.interfaces.specs.Refusals.{said, no as refusal}
 use Rattle.interfaces.specs.Tasks.{Verdict}
 use Rattle.past.specs.Afresh.{Log, Outcome, gave, fault}
-use Rattle.past.specs.Past.{Lent, Run, query, refused, queried, Past, ◌▹◌}
+use Rattle.past.specs.Past.{Run, query, refused, queried, Past, ◌▹◌}
 use Rattle.past.specs.Law.{Lawful}
 use Rattle.view.specs.View.{View, Shows}
-use Rattle.midway.specs.Midway.{Mid, Open, Brought}
 use Rattle.midway.proofs.Ends.{mid_start, mid_end, lawful_end, refused_shows, refused_lawful}
 use Rattle.moves.specs.declared.answer.Fault.{Fault}
 use Rattle.moves.specs.declared.answer.Ran.{Ran}
 use Rattle.moves.specs.declared.path.Path.{Path}
 use Rattle.moves.specs.Paths.{path_cells}
-use Rattle.scheduler.specs.declared.answer.Answer.{Answer}
-use Rattle.scheduler.specs.Outcomes.{outcome_of, layer_of, chain_in, ran_entry, run_entry, Listed}
+use Rattle.scheduler.specs.Outcomes.{outcome_of, layer_of, ran_entry, run_entry, Listed}
 use Rattle.scheduler.specs.Settling.{Settles}
-use Rattle.scheduler.specs.Promise.{Enough, Setting, Queried, Refused, Answered}
+use Rattle.scheduler.specs.Promise.{Enough, Setting, Refused, Answered}
 
 pub few_cells : (p : Path) → length (path_cells p) ≤ cell_count
 few_cells p = omega (arith, p.short, length-take p.len p.cells)

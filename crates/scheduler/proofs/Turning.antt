@@ -3,7 +3,7 @@ use Rattle.std.proofs.Common.{◌≡◌, ℕ, ◌≤◌, Bool, true, false, List
 use Rattle.std.proofs.lemmas.Bool.{eq-eqb, le-leb}
 use Rattle.interfaces.specs.declared.cell.Cell.{Cell}
 use Rattle.interfaces.specs.declared.step.Plan.TheVariants.{Run, Keep, Next}
-use Rattle.interfaces.specs.Cells.{ask_limit, number_of, but}
+use Rattle.interfaces.specs.Cells.{ask_limit, number_of}
 use Rattle.interfaces.specs.Tasks.{Act, asks, gives, faults}
 use Rattle.interfaces.specs.Traces.{Pair, Trace, Planned, runs, keeps, next, plan_for, pairs_of, recording, after_recording}
 use Rattle.past.specs.Past.{changed}

@@ -1,5 +1,5 @@
 -- What the answers and lists of a query mean.
-use Rattle.std.specs.Prelude.{◌≡◌, ℕ, ◌≤◌, List, [], ◌∷◌, map, length, take, drop, Ok, Err, Result}
+use Rattle.std.specs.Prelude.{◌≡◌, ℕ, ◌≤◌, List, [], map, length, take, drop, Ok, Err, Result}
 use Rattle.interfaces.specs.declared.cell.Cell.{Cell}
 use Rattle.interfaces.specs.Cells.{cell_count, number_of}
 use Rattle.past.specs.Afresh.{Layer, engine, language, Outcome, gave, fault}

@@ -70,7 +70,7 @@ fn follow<V: Value, S: Store<V>, L: Language<V>, R: Rebuilder<V>>(
         report.old.ran report.old.list.now report.new.ran report.new.list.now (outcome_of V.Value.canon (path_cells path.new) result) }
 {
     let mut asked = Asked::new(&[]);
-    let mut running = false;
+    let mut running = false; // no value goes with it, so an enum would be no plainer
     loop {
         match next_turn(parts, cell, path.len(), &asked, work, running)? {
             Turn::Done(value) => {

@@ -1,7 +1,7 @@
 -- Each way out of the two functions, and round the loop, by what the workbook shows before and after.
 use borrow.Rule.Slice.PartMut.{put_mid, post_of}
 use Rattle.std.proofs.Common.{◌≡◌, ℕ, ◌+◌, ◌-◌, ◌<◌, ◌≤◌, true, false, List, [], ◌∷◌, ◌++◌, map, length, take, set, Err, sym, refl, ap, ◌∙◌, subst, arith, length-append}
-use Rattle.std.proofs.lemmas.List.{map-append, length-map, take_more_set, length-take-le, take_all}
+use Rattle.std.proofs.lemmas.List.{map-append, length-map, take_more_set, length-take-le}
 use Rattle.std.proofs.lemmas.Slice.{take-put_mid_below}
 use Rattle.std.proofs.lemmas.Result.{err_from_is_err_and}
 use Rattle.interfaces.specs.Asks.{asked_cells}
@@ -9,7 +9,7 @@ use Rattle.interfaces.specs.Cells.{cell_count, ask_limit, number_of}
 use Rattle.table.specs.Records.{record_in}
 use Rattle.moves.specs.Paths.{path_cells}
 use Rattle.scheduler.specs.Outcomes.{outcome_of}
-use Rattle.scheduler.specs.Settling.{Leaves, Settles}
+use Rattle.scheduler.specs.Settling.{Settles}
 use Rattle.scheduler.proofs.Lengths.{pushed, popped}
 use Rattle.scheduler.proofs.Codes.{discrete}
 use Rattle.scheduler.proofs.Going as going
@@ -34,58 +34,43 @@ follow-loop-value-init g t c = record {
       c.new-asked.result c.args.work.now false c.args.report.now.ran c.args.report.now.list.now ran' list' o c.new-asked.ensures f;
 }
 
-pub follow-returns-in_err-value : goal.follow-returns-in_err-value
-follow-returns-in_err-value g t c =
+pub follow-returns-in_err-value-clause-follows : goal.follow-returns-in_err-value-clause-follows
+follow-returns-in_err-value-clause-follows g t c =
     let q = err_from_is_err_and c.from_residual.result c.from_residual.ensures.1 in
     let k = going.step_faults g.V.Value.blank g.R.Rebuilder.depth (discrete g.row.V.coded) g.V.Value.canon g.V.Value.alike g.met.V.Value.alike_sound g.met.V.Value.alike_whole g.met.V.Value.steady
     (view g c.loop-value.parts) (path_cells c.loop-value.path) c.args.cell (g.R.Rebuilder.traces c.loop-value.parts.rebuilder (number_of c.args.cell)) c.loop-value.asked c.loop-value.work c.loop-value.running c.loop-value.report
     refl (omega (arith, c.loop-value.auto.work, c.requires)) c.len.result
-    (path_cells c.args.path.now) c.in_err-value.field-0.0 c.from_residual.result (q.1 ∙ ap Err q.2) c.len.ensures.count c.in_err-value.ensures in
-    record {
-      path = k.0;
-      lent = c.loop-value.invariant.lent;
-      follows = c.loop-value.invariant.joins (view g c.loop-value.parts) c.loop-value.report.ran c.loop-value.report.list.now _ k.1;
-    }
+    c.in_err-value.field-0.0 c.from_residual.result (q.1 ∙ ap Err q.2) c.len.ensures.count c.in_err-value.ensures in
+    c.loop-value.invariant.joins (view g c.loop-value.parts) c.loop-value.report.ran c.loop-value.report.list.now _ k
 
-pub follow-returns-in_err-check_ask-in-Ask : goal.follow-returns-in_err-check_ask-in-Ask
-follow-returns-in_err-check_ask-in-Ask g t c =
+pub follow-returns-in_err-check_ask-in-Ask-clause-follows : goal.follow-returns-in_err-check_ask-in-Ask-clause-follows
+follow-returns-in_err-check_ask-in-Ask-clause-follows g t c =
     let q = err_from_is_err_and c.from_residual-in_err-check_ask-in-Ask.result c.from_residual-in_err-check_ask-in-Ask.ensures.1 in
     let k = going.ask_faults g.V.Value.blank g.R.Rebuilder.depth (discrete g.row.V.coded) g.V.Value.canon g.V.Value.alike g.met.V.Value.alike_sound g.met.V.Value.alike_whole g.met.V.Value.steady
     (view g c.loop-value.parts) (path_cells c.loop-value.path) c.args.cell (g.R.Rebuilder.traces c.loop-value.parts.rebuilder (number_of c.args.cell)) c.loop-value.asked c.loop-value.work c.loop-value.running c.loop-value.report
     refl (omega (arith, c.loop-value.auto.work, c.requires)) c.len.result
-    (path_cells c.args.path.now) c.in-Ask.wanted c.in_ok-value.field-0 c.in_err-check_ask-in-Ask.field-0.0 c.from_residual-in_err-check_ask-in-Ask.result (q.1 ∙ ap Err q.2) c.in-Ask.is c.in_ok-value.ensures c.in_err-check_ask-in-Ask.ensures in
-    record {
-      path = k.0;
-      lent = c.loop-value.invariant.lent;
-      follows = c.loop-value.invariant.joins (view g c.loop-value.parts) c.loop-value.report.ran c.loop-value.report.list.now _ k.1;
-    }
+    c.in-Ask.wanted c.in_ok-value.field-0 c.in_err-check_ask-in-Ask.field-0.0 c.from_residual-in_err-check_ask-in-Ask.result (q.1 ∙ ap Err q.2) c.in-Ask.is c.in_ok-value.ensures c.in_err-check_ask-in-Ask.ensures in
+    c.loop-value.invariant.joins (view g c.loop-value.parts) c.loop-value.report.ran c.loop-value.report.list.now _ k
 
-pub follow-returns-in_err-value-in-Ask : goal.follow-returns-in_err-value-in-Ask
-follow-returns-in_err-value-in-Ask g t c =
+pub follow-returns-in_err-value-in-Ask-clause-follows : goal.follow-returns-in_err-value-in-Ask-clause-follows
+follow-returns-in_err-value-in-Ask-clause-follows g t c =
     let q = err_from_is_err_and c.from_residual-in_err-value-in-Ask.result c.from_residual-in_err-value-in-Ask.ensures.1 in
     let s = c.in_err-value-in-Ask.ensures in
     let k = going.below_faults g.V.Value.blank g.R.Rebuilder.depth (discrete g.row.V.coded) g.V.Value.canon g.V.Value.alike g.met.V.Value.alike_sound g.met.V.Value.alike_whole g.met.V.Value.steady
     (view g c.loop-value.parts) (path_cells c.loop-value.path) c.args.cell (g.R.Rebuilder.traces c.loop-value.parts.rebuilder (number_of c.args.cell)) c.loop-value.asked c.loop-value.work c.loop-value.running c.loop-value.report
     refl (omega (arith, c.loop-value.auto.work, c.requires)) c.len.result
-    (path_cells c.args.path.now) c.in-Ask.wanted c.in_ok-value.field-0 (view g c.settle.new.parts) (path_cells c.settle.new.path) c.settle.new.report c.in_err-value-in-Ask.field-0.0 c.from_residual-in_err-value-in-Ask.result (q.1 ∙ ap Err q.2)
-    c.in-Ask.is c.in_ok-value.ensures c.in_ok-check_ask-in-Ask.ensures s.path s.settles in
-    record {
-      path = k.0;
-      lent = s.lent ∙ c.loop-value.invariant.lent;
-      follows = c.loop-value.invariant.joins (view g c.settle.new.parts) c.settle.new.report.ran c.settle.new.report.list.now _ k.1;
-    }
+    c.in-Ask.wanted c.in_ok-value.field-0 (view g c.settle.new.parts) (path_cells c.settle.new.path) c.settle.new.report c.in_err-value-in-Ask.field-0.0 c.from_residual-in_err-value-in-Ask.result (q.1 ∙ ap Err q.2)
+    c.in-Ask.is c.in_ok-value.ensures c.in_ok-check_ask-in-Ask.ensures s.settles in
+    c.loop-value.invariant.joins (view g c.settle.new.parts) c.settle.new.report.ran c.settle.new.report.list.now _ k
 
-pub follow-returns-in-Done : goal.follow-returns-in-Done
-follow-returns-in-Done g t c = record {
-  path = c.loop-value.invariant.same_path;
-  lent = c.conclude.ensures.report.lent ∙ c.loop-value.invariant.lent;
-  follows = c.loop-value.invariant.joins (view g c.conclude.new.parts) c.conclude.new.report.ran c.conclude.new.report.list.now _
-      (going.finishes g.V.Value.blank g.R.Rebuilder.depth (discrete g.row.V.coded) g.V.Value.canon g.V.Value.alike g.met.V.Value.alike_sound g.met.V.Value.alike_whole g.met.V.Value.steady
-      (view g c.loop-value.parts) (path_cells c.loop-value.path) c.args.cell (g.R.Rebuilder.traces c.loop-value.parts.rebuilder (number_of c.args.cell)) c.loop-value.asked c.loop-value.work c.loop-value.running c.loop-value.report
-      refl (omega (arith, c.loop-value.auto.work, c.requires)) c.len.result
-      c.in-Done.value c.in_ok-value.field-0 (view g c.conclude.new.parts) c.conclude.new.report (record_in c.loop-value.parts.table (number_of c.args.cell)).cause
-      c.in-Done.is c.in_ok-value.ensures refl c.conclude.ensures.concludes c.conclude.ensures.report);
-}
+pub follow-returns-in-Done-clause-follows : goal.follow-returns-in-Done-clause-follows
+follow-returns-in-Done-clause-follows g t c =
+    c.loop-value.invariant.joins (view g c.conclude.new.parts) c.conclude.new.report.ran c.conclude.new.report.list.now _
+    (going.finishes g.V.Value.blank g.R.Rebuilder.depth (discrete g.row.V.coded) g.V.Value.canon g.V.Value.alike g.met.V.Value.alike_sound g.met.V.Value.alike_whole g.met.V.Value.steady
+    (view g c.loop-value.parts) (path_cells c.loop-value.path) c.args.cell (g.R.Rebuilder.traces c.loop-value.parts.rebuilder (number_of c.args.cell)) c.loop-value.asked c.loop-value.work c.loop-value.running c.loop-value.report
+    refl (omega (arith, c.loop-value.auto.work, c.requires)) c.len.result
+    c.in-Done.value c.in_ok-value.field-0 (view g c.conclude.new.parts) c.conclude.new.report (record_in c.loop-value.parts.table (number_of c.args.cell)).cause
+    c.in-Done.is c.in_ok-value.ensures refl c.conclude.ensures.concludes c.conclude.ensures.report)
 
 pub follow-loop-value-preserved-in-Begin : goal.follow-loop-value-preserved-in-Begin
 follow-loop-value-preserved-in-Begin g t c = record {
@@ -118,46 +103,36 @@ follow-loop-value-preserved g t c =
           c.in-Ask.is c.in_ok-value.ensures k s.settles s.path xa xw f);
     }
 
-pub settle-returns-then-not-in_doubt : goal.settle-returns-then-not-in_doubt
-settle-returns-then-not-in_doubt g t c = record {
-  path = refl;
-  lent = refl;
-  settles = steps.settled_read g.V.Value.blank g.R.Rebuilder.depth (discrete g.row.V.coded) (view g c.args.parts.now) (map number_of (path_cells c.args.path.now)) (number_of c.args.cell)
-      (g.V.Value.canon c.read_stored.result) c.args.report.now.ran c.args.report.now.list.now c.read_stored.ensures (c.if-not-in_doubt.ensures.no refl);
-}
+pub settle-returns-then-not-in_doubt-clause-settles : goal.settle-returns-then-not-in_doubt-clause-settles
+settle-returns-then-not-in_doubt-clause-settles g t c =
+    steps.settled_read g.V.Value.blank g.R.Rebuilder.depth (discrete g.row.V.coded) (view g c.args.parts.now) (map number_of (path_cells c.args.path.now)) (number_of c.args.cell)
+    (g.V.Value.canon c.read_stored.result) c.args.report.now.ran c.args.report.now.list.now c.read_stored.ensures (c.if-not-in_doubt.ensures.no refl)
 
-pub settle-returns-then-len-ge-CELLS : goal.settle-returns-then-len-ge-CELLS
-settle-returns-then-len-ge-CELLS g t c = record {
-  path = ap (λ z. z.chain) c.locate.ensures ∙ c.len-then-len-ge-CELLS.ensures.count;
-  lent = refl;
-  settles = steps.too_deep g.V.Value.blank g.R.Rebuilder.depth (discrete g.row.V.coded) (view g c.args.parts.now) (map number_of (path_cells c.args.path.now)) (number_of c.args.cell)
-      (view g c.args.parts.now) c.args.report.now.ran c.args.report.now.list.now c.args.report.now.ran c.args.report.now.list.now _
-      (omega (arith, length-map (path_cells c.args.path.now) number_of, c.len.ensures.count, c.if-len-ge-CELLS.true)) (c.if-not-in_doubt.ensures.yes tt);
-}
+pub settle-returns-then-len-ge-CELLS-clause-settles : goal.settle-returns-then-len-ge-CELLS-clause-settles
+settle-returns-then-len-ge-CELLS-clause-settles g t c =
+    steps.too_deep g.V.Value.blank g.R.Rebuilder.depth (discrete g.row.V.coded) (view g c.args.parts.now) (map number_of (path_cells c.args.path.now)) (number_of c.args.cell)
+    (view g c.args.parts.now) c.args.report.now.ran c.args.report.now.list.now c.args.report.now.ran c.args.report.now.list.now _
+    (omega (arith, length-map (path_cells c.args.path.now) number_of, c.len.ensures.count, c.if-len-ge-CELLS.true)) (c.if-not-in_doubt.ensures.yes tt)
 
-pub settle-returns-in_err-value : goal.settle-returns-in_err-value
-settle-returns-in_err-value g t c =
+pub settle-returns-in_err-value-clause-settles : goal.settle-returns-in_err-value-clause-settles
+settle-returns-in_err-value-clause-settles g t c =
     let q = err_from_is_err_and c.from_residual.result c.from_residual.ensures.1 in
     let s = c.in_err-value.ensures in
     let u = pushed cell_count (path_cells c.args.path.now) (path_cells c.push.new.self) c.args.cell c.push.ensures.cells (omega (arith, c.len.ensures.count, c.if-len-ge-CELLS.false)) in
-    record {
-      path = subst (Leaves (path_cells c.args.path.now) (path_cells c.follow.new.path)) (sym (q.1 ∙ ap Err q.2)) s.path;
-      lent = s.lent;
-      settles = subst (λ z. Settles g.V.Value.blank g.R.Rebuilder.depth (view g c.args.parts.now) (view g c.follow.new.parts) (map number_of (path_cells c.args.path.now)) (number_of c.args.cell)
-          c.args.report.now.ran c.args.report.now.list.now c.follow.new.report.ran c.follow.new.report.list.now (outcome_of g.V.Value.canon (path_cells c.follow.new.path) z)) (sym (q.1 ∙ ap Err q.2))
-          (steps.settled_follow g.V.Value.blank g.R.Rebuilder.depth (discrete g.row.V.coded) (view g c.args.parts.now) (map number_of (path_cells c.args.path.now)) (number_of c.args.cell) (view g c.follow.new.parts) _
-          c.args.report.now.ran c.args.report.now.list.now c.follow.new.report.ran c.follow.new.report.list.now _ (c.if-not-in_doubt.ensures.yes tt)
-          (ap (map number_of) u ∙ map-append number_of (path_cells c.args.path.now) (c.args.cell ∷ [])) s.follows);
-    }
+    subst (λ z. Settles g.V.Value.blank g.R.Rebuilder.depth (view g c.args.parts.now) (view g c.follow.new.parts) (map number_of (path_cells c.args.path.now)) (number_of c.args.cell)
+    c.args.report.now.ran c.args.report.now.list.now c.follow.new.report.ran c.follow.new.report.list.now (outcome_of g.V.Value.canon (path_cells c.follow.new.path) z)) (sym (q.1 ∙ ap Err q.2))
+    (steps.settled_follow g.V.Value.blank g.R.Rebuilder.depth (discrete g.row.V.coded) (view g c.args.parts.now) (map number_of (path_cells c.args.path.now)) (number_of c.args.cell) (view g c.follow.new.parts) _
+    c.args.report.now.ran c.args.report.now.list.now c.follow.new.report.ran c.follow.new.report.list.now _ (c.if-not-in_doubt.ensures.yes tt)
+    (ap (map number_of) u ∙ map-append number_of (path_cells c.args.path.now) (c.args.cell ∷ [])) s.follows)
 
-pub settle-returns : goal.settle-returns
-settle-returns g t c =
-    let s = c.in_ok-value.ensures in
+pub settle-returns-clause-path : goal.settle-returns-clause-path
+settle-returns-clause-path g t c =
     let u = pushed cell_count (path_cells c.args.path.now) (path_cells c.push.new.self) c.args.cell c.push.ensures.cells (omega (arith, c.len.ensures.count, c.if-len-ge-CELLS.false)) in
-    record {
-      path = popped (path_cells c.args.path.now) (path_cells c.follow.new.path) (path_cells c.pop.new.self) c.args.cell (s.path ∙ u) c.pop.ensures;
-      lent = s.lent;
-      settles = steps.settled_follow g.V.Value.blank g.R.Rebuilder.depth (discrete g.row.V.coded) (view g c.args.parts.now) (map number_of (path_cells c.args.path.now)) (number_of c.args.cell) (view g c.follow.new.parts) _
-          c.args.report.now.ran c.args.report.now.list.now c.follow.new.report.ran c.follow.new.report.list.now _ (c.if-not-in_doubt.ensures.yes tt)
-          (ap (map number_of) u ∙ map-append number_of (path_cells c.args.path.now) (c.args.cell ∷ [])) s.follows;
-    }
+    popped (path_cells c.args.path.now) (path_cells c.follow.new.path) (path_cells c.pop.new.self) c.args.cell (c.in_ok-value.ensures.path ∙ u) c.pop.ensures
+
+pub settle-returns-clause-settles : goal.settle-returns-clause-settles
+settle-returns-clause-settles g t c =
+    let u = pushed cell_count (path_cells c.args.path.now) (path_cells c.push.new.self) c.args.cell c.push.ensures.cells (omega (arith, c.len.ensures.count, c.if-len-ge-CELLS.false)) in
+    steps.settled_follow g.V.Value.blank g.R.Rebuilder.depth (discrete g.row.V.coded) (view g c.args.parts.now) (map number_of (path_cells c.args.path.now)) (number_of c.args.cell) (view g c.follow.new.parts) _
+    c.args.report.now.ran c.args.report.now.list.now c.follow.new.report.ran c.follow.new.report.list.now _ (c.if-not-in_doubt.ensures.yes tt)
+    (ap (map number_of) u ∙ map-append number_of (path_cells c.args.path.now) (c.args.cell ∷ [])) c.in_ok-value.ensures.follows

@@ -1,4 +1,4 @@
-use Rattle.std.proofs.Common.{sym, ◌∷◌, [], ◌++◌, take, length, ◌∙◌, arith, length-append, take_all}
+use Rattle.std.proofs.Common.{sym, ◌∷◌, [], ◌++◌, ◌∙◌, arith, length-append, take_all}
 use Rattle.std.proofs.lemmas.List.{take_more_set, length-take, take-append-le}
 use Rattle.interfaces.specs.Cells.{cell_count}
 use Rattle.moves.specs.Paths.{path_cells}
