@@ -5,7 +5,7 @@ ghost use Rattle.fragment.specs.Laws.{fragment_full, fragment_within};
 
 use crate::item::row_from;
 use crate::run;
-use definitions::{Grammar, Texts};
+use grammars::{Grammar, Texts};
 use interfaces::step::Step;
 use text::Text;
 

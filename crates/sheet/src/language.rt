@@ -9,7 +9,7 @@ ghost use Rattle.formula.specs.Own.{stands_own};
 ghost use Rattle.sheet_work.specs.Flows.{outcome_of};
 ghost use Rattle.sheet.specs.Laws.{formula_full, formula_within};
 
-use definitions::{Grammar, Texts};
+use grammars::{Grammar, Texts};
 use interfaces::step::Step;
 use interfaces::value::Value;
 use sheet_reader::read;

@@ -1,7 +1,7 @@
 use Rattle.std.proofs.Common.{◌≤◌, length, ap, arith}
 use Rattle.interfaces.specs.Cells.{text_limit}
 use Rattle.definitions.proofs.HeldTexts.{text_short}
-use Rattle.definitions.proofs.texts.TextsLanguage.step.Goals as goal
+use Rattle.grammars.proofs.texts.TextsLanguage.step.Goals as goal
 
 pub returns : goal.returns
 returns g c =

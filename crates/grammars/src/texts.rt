@@ -5,7 +5,7 @@ ghost use Rattle.definitions.specs.Memory.{Roomy, checked, text_at};
 ghost use Rattle.definitions.specs.Meant.{meant};
 
 use crate::grammar::Grammar;
-use crate::memory::TextMemory;
+use definitions::TextMemory;
 use interfaces::cell::{Cell, TEXT};
 use interfaces::language::Language;
 use interfaces::refusal::Refusal;
