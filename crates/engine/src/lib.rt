@@ -98,7 +98,8 @@ impl<V: Value, S: Store<V>, L: Language<V>, R: Rebuilder<V>> Workbook<V, S, L, R
         if !row.defined {
             return Err(Refusal::UndefinedCell);
         }
-        self.parts.store.write(cell, V::blank_value())?;
+        let blank = V::blank_value();
+        self.parts.store.write(cell, blank)?;
         self.parts.language.remove(cell);
         self.parts.rebuilder.forget(cell);
         self.parts.table.mark(cell); // whatever the value was

@@ -40,6 +40,7 @@ fn pass<V: Value, S: Store<V>, L: Language<V>, R: Rebuilder<V>>(
     ensures { Promise V.Value S.Store L.Language R.Rebuilder workbook.old workbook.new
         (Queries (number_of cell) (record { report = cell_count; chain = cell_count; work = length work.old })) (told result) }
 {
+    // fixed memory: lists as long as a query may need, which nobody reads
     let mut report = [Ran { cell, cause: cell }; CELLS];
     let mut chain = [cell; CELLS];
     workbook.query(cell, &mut report, &mut chain, work)?;

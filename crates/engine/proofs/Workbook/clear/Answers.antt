@@ -17,6 +17,6 @@ returns-in_err-write g c =
 pub returns : goal.returns
 returns g c =
     clears g.V.Value g.S.Store g.L.Language g.R.Rebuilder g.row.V.coded c.args.self.now.parts (number_of c.args.cell) c.get-row.result c.get-row.ensures.row c.get-row.ensures.bound
-    _ c.write.new.self c.remove.new.self c.forget.new.self c.mark.new.self c.change.new.self c.blank_value.result c.blank.result (not-false _ c.if-not-row.false)
-    c.in_ok-write.ensures.answer (ap g.V.Value.canon c.blank_value.ensures ∙ g.met.V.Value.plain) c.write.ensures.values c.write.ensures.locks c.remove.ensures c.forget.ensures c.mark.ensures
+    _ c.write.new.self c.remove.new.self c.forget.new.self c.mark.new.self c.change.new.self c.blank_value-blank.result c.blank.result (not-false _ c.if-not-row.false)
+    c.in_ok-write.ensures.answer (ap g.V.Value.canon c.blank_value-blank.ensures ∙ g.met.V.Value.plain) c.write.ensures.values c.write.ensures.locks c.remove.ensures c.forget.ensures c.mark.ensures
     c.blank.ensures.plain c.blank.ensures.sure c.blank.ensures.idle c.change.ensures
