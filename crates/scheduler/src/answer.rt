@@ -1,5 +1,5 @@
-// What a query answers.
-use moves::Fault;
+// What a query answers; its runs and faults are those of the moves.
+pub use moves::answer::{Fault, Layer, Located, Ran};
 
 /// A query's outcome, and how many runs it reports.
 #[derive(Clone, Copy)]

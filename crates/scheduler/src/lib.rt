@@ -12,11 +12,10 @@ ghost use Rattle.scheduler.specs.Lending.{Lends};
 
 pub mod answer;
 
-pub use answer::Answer;
+pub use answer::{Answer, Fault, Layer, Ran};
 use interfaces::cell::{ASKS, CELLS, WORK};
 use interfaces::memory::check_room;
 use interfaces::{Asked, Cell, Language, Rebuilder, Refusal, Store, Value};
-pub use moves::{Fault, Layer, Ran};
 use moves::{AskFault, Path, Report, Turn, check_ask, conclude, in_doubt, next_turn, read_stored};
 use parts::Parts;
 
