@@ -11,8 +11,3 @@ returns-in-Ok c l =
     let r = answer_row (rows 0 0 c.args.text.now) _ c.in-Ok.ensures in
     step_legal c.args.text.now r.0 (map text_canon c.args.answers.now) _ r.1
     (c.run.ensures r.0 r.1 ∙ ap (λ b. runs 0 b r.0 (map text_canon c.args.answers.now)) (ap text_means c.blank_value-in-Ok.ensures ∙ blank_empty))
-
-pub returns-in-Err : goal.returns-in-Err
-returns-in-Err c l =
-    ap gives (ap text_canon c.blank_value-in-Err.ensures ∙ blank_canon)
-    ∙ step_astray c.args.text.now _ (map text_canon c.args.answers.now) (answer_astray (rows 0 0 c.args.text.now) _ c.in-Err.ensures)
