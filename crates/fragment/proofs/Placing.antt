@@ -1,11 +1,10 @@
 -- The readers of the code read what the readers of the grammar read. Assumes nothing.
-use Rattle.std.proofs.Common.{◌≡◌, ℕ, suc, ◌+◌, ◌<◌, ◌≤◌, Bool, true, false, cond, eqb, List, [], length, get_or, take, drop, Some, None, Option, Ok, Err, Result, MatchOption, sym, refl, ap, ◌∙◌, subst, arith}
-use Rattle.std.proofs.lemmas.List.{drop-drop, drop_all, get_or-drop, take_at, length-drop, length-take-le}
+use Rattle.std.proofs.Common.{◌≡◌, ℕ, suc, ◌+◌, ◌<◌, ◌≤◌, Bool, true, false, cond, eqb, leb, ltb, ◌&&◌, List, [], length, get_or, take, drop, Ok, Err, Result, MatchResult, sym, refl, ap, ◌∙◌, subst, arith}
+use Rattle.std.proofs.lemmas.List.{drop-drop, drop_all, get_or-drop, take_at, length-append, length-drop, length-take-le}
 use Rattle.std.proofs.lemmas.Bool.{cond-true, cond-false}
-use Rattle.std.specs.Option.{ok_or}
 use Rattle.interfaces.specs.Cells.{number_of}
 use Rattle.interfaces.specs.declared.cell.Cell.{Cell}
-use Rattle.names.specs.Names.{name_of, NameAt, NoNameAt}
+use Rattle.names.specs.Names.{name_of, NameAt, NoNameAt, LeftAt}
 use Rattle.fragment_grammar.specs.Grammar.{Item, plain, insert, written, opening, closing, question, Sound}
 use Rattle.fragment_grammar.specs.Reader.{Read, got, stuck, further, and_then, head, nothing, led, is_column, is_first, is_second, name_in, named, filled_in, tested_in, is_plain, item_in, Rows, row, astray, fronted, rows}
 use Rattle.fragment_grammar.proofs.Reading.{Right}
@@ -121,11 +120,28 @@ module _ (text : List ℕ) (at : ℕ) (a : NoNameAt text at) where
   pub no_name_read : Err (at + cond (is_column (get_or text at 0)) 1 0) ≡ placed at (name_in (drop at text))
   no_name_read = no_name_at (name_in (drop at text)) refl (name_right (drop at text))
 
+-- a text leaves every name where the reader says
+left_column : (p q : Bool) (at : ℕ) → cond p (cond q (at + 1) at) at ≡ at + cond (p && q) 1 0
+left_column true true at = refl
+left_column true false at = omega arith
+left_column false q at = omega arith
+
 -- what the reader of a name answers
-pub cell_read : (text : List ℕ) (at : ℕ) (r : Option (Cell × ℕ)) → MatchOption r (NoNameAt text at) (λ p. NameAt text at (number_of p.0) p.1)
-    → read_means number_of (ok_or r (at + cond (is_column (get_or text at 0)) 1 0)) ≡ placed at (name_in (drop at text))
-cell_read text at None a = no_name_read text at a
-cell_read text at (Some p) a = name_read text at _ _ a
+pub cell_read : (text : List ℕ) (at : ℕ) (r : Result (Cell × ℕ) ℕ) → MatchResult r (λ p. NameAt text at (number_of p.0) p.1) (λ e. LeftAt text at e)
+    → read_means number_of r ≡ placed at (name_in (drop at text))
+cell_read text at (Ok p) a = name_read text at _ _ a
+cell_read text at (Err e) a = ap Err (a.1 ∙ left_column (leb 65 (get_or text at 0)) (ltb (get_or text at 0) 81) at) ∙ no_name_read text at a.0
+
+-- and the place behind it is in the text, or at its end
+pub cell_within : (text : List ℕ) (at : ℕ) → at ≤ length text → (r : Result (Cell × ℕ) ℕ) → MatchResult r (λ p. NameAt text at (number_of p.0) p.1) (λ e. LeftAt text at e)
+    → MatchResult r (λ p. p.1 ≤ length text) (λ _. ⊥ → ⊥)
+cell_within text at l (Ok p) a =
+    let n = name_of (number_of p.0) in
+    let w : length (drop at text) ≡ length n + length (drop p.1 text) = ap length a.reads ∙ length-append n (drop p.1 text) in
+    let d = length-drop at text in
+    let x = a.next_is in
+    omega arith
+cell_within text at l (Err e) a = λ z. z
 
 -- the item that was read at a place: it goes on from there
 pub record Next (text : List ℕ) (at : ℕ) (i : Item) (next : ℕ) : Type 0 where

@@ -8,7 +8,7 @@ ghost use Rattle.fragment_grammar.specs.Reader.{is_column, is_plain, name_in, na
 ghost use Rattle.fragment.specs.Readings.{item_means, read_means, placed, row_answer};
 
 use interfaces::cell::Cell;
-use names::name_at;
+use names::name_or_end;
 
 /// A part of a fragment.
 #[derive(Clone, Copy)]
@@ -30,23 +30,12 @@ fn stands_at(text: &[u8], at: usize, byte: u8) -> bool
     text.get(at) == Some(&byte)
 }
 
-// Where the text leaves every name, if no name stands at the place.
-fn name_end(text: &[u8], at: usize) -> usize
-    requires { at ≤ length text.now }
-    ensures { result ≡ at + (if is_column (slice_index text.now at) then 1 else 0) }
-{
-    match text.get(at) {
-        Some(b'A'..=b'P') => at + 1,
-        _ => at,
-    }
-}
-
 fn cell_from(text: &[u8], at: usize) -> Result<(Cell, usize), usize>
     requires { at ≤ length text.now }
     ensures reads { read_means number_of result ≡ placed at (name_in (drop at text.now)) }
     ensures within { MatchResult result (λ p. p.1 ≤ length text.now) (λ _. ⊥ → ⊥) }
 {
-    name_at(text, at).ok_or(name_end(text, at))
+    name_or_end(text, at)
 }
 
 // The last cell of a choice and the brace behind it.

@@ -1,5 +1,5 @@
 -- The names of cells: a column letter and a row without leading zero.
-use Rattle.std.specs.Prelude.{◌≡◌, ℕ, ◌+◌, ◌/◌, ◌%◌, ◌<◌, ◌≤◌, cond, List, [], ◌∷◌, ◌++◌, length, drop, Option, MatchOption, ◌≢◌, nat_lt, slice_index}
+use Rattle.std.specs.Prelude.{◌≡◌, ℕ, ◌+◌, ◌/◌, ◌%◌, ◌<◌, ◌≤◌, cond, List, [], ◌∷◌, ◌++◌, length, drop, Option, MatchOption, ◌≢◌, nat_le, nat_lt, slice_index}
 use Rattle.interfaces.specs.declared.cell.Cell.{Cell}
 use Rattle.interfaces.specs.Cells.{cell_count, number_of}
 
@@ -46,3 +46,11 @@ Named text r = MatchOption r ((m : ℕ) → m < cell_count → name_of m ≢ tex
 -- cells with one name are one cell
 abbrev pub OneName : Type 0
 OneName = (m n : ℕ) → m < cell_count → n < cell_count → name_of m ≡ name_of n → m ≡ n
+
+-- where a text that has no name at the place leaves every name: behind the letter of a column, or at the place
+abbrev pub left_at : (byte at : ℕ) → ℕ
+left_at b at = cond (nat_le 65 b) (cond (nat_lt b (65 + column_count)) (at + 1) at) at
+
+-- no name stands at the place, and the text leaves every name at `end`
+abbrev pub LeftAt : List ℕ → ℕ → ℕ → Type 0
+LeftAt text at end = NoNameAt text at × (end ≡ left_at (slice_index text at) at)

@@ -1,10 +1,10 @@
 // The names of cells, read and written.
 #![tactic(auto)]
 
-ghost use Rattle.std.specs.Prelude.{◌≡◌, ℕ, ◌+◌, ◌<◌, ◌≤◌, length, MatchOption};
+ghost use Rattle.std.specs.Prelude.{◌≡◌, ℕ, ◌+◌, ◌<◌, ◌≤◌, length, MatchOption, MatchResult, slice_index};
 ghost use Rattle.interfaces.specs.Cells.{cell_count, number_of};
 ghost use Rattle.interfaces.specs.Printing.{written_bytes};
-ghost use Rattle.names.specs.Names.{name_of, OffsetAt, NameAt, NoNameAt, Named, OneName};
+ghost use Rattle.names.specs.Names.{name_of, OffsetAt, NameAt, NoNameAt, left_at, LeftAt, Named, OneName};
 
 use interfaces::cell::{CELLS, Cell};
 use interfaces::written::Written;
@@ -46,6 +46,23 @@ pub fn name_at(text: &[u8], at: usize) -> Option<(Cell, usize)>
     }
     let cell = Cell::new(column * ROWS + (row - 1))?;
     Some((cell, at + 2))
+}
+
+// Where a text that has no name at the place leaves every name: behind the letter of a column, or at the place.
+fn name_end(text: &[u8], at: usize) -> usize
+    ensures { result ≡ left_at (slice_index text.now at) at }
+{
+    match text.get(at) {
+        Some(b'A'..=b'P') => at + 1,
+        _ => at,
+    }
+}
+
+/// The name that stands at a place, the longest one, or else where the text leaves every name.
+pub fn name_or_end(text: &[u8], at: usize) -> Result<(Cell, usize), usize>
+    ensures { MatchResult result (λ p. NameAt text.now at (number_of p.0) p.1) (λ end. LeftAt text.now at end) }
+{
+    name_at(text, at).ok_or_else(|| name_end(text, at))
 }
 
 /// The cell whose name the text is.

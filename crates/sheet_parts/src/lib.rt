@@ -8,13 +8,13 @@ ghost use Rattle.std.proofs.Math.Option.{none, some};
 ghost use Rattle.interfaces.specs.Cells.{number_of};
 ghost use Rattle.names.specs.Names.{NameAt};
 ghost use Rattle.whole.specs.Whole.{whole_limit};
-ghost use Rattle.formula.specs.Bytes.{link_of, digit_of, column_of, start_of};
-ghost use Rattle.sheet_parts.specs.Tokens.{stands_at_lem, spelled, whole_of, number_in, name_end_lem, NoName, count_means, count_in};
+ghost use Rattle.formula.specs.Bytes.{link_of, digit_of, start_of};
+ghost use Rattle.sheet_parts.specs.Tokens.{stands_at_lem, spelled, whole_of, number_in, NoName, count_means, count_in};
 
 use formula::byte::{Link, Start, link_of, start_of};
 use interfaces::cell::Cell;
 use interfaces::value::Value;
-use names::name_at;
+use names::name_or_end;
 use sheet_work::block::Block;
 use whole::Whole;
 
@@ -114,21 +114,11 @@ pub fn number(text: &[u8], at: usize) -> Result<(Whole, usize), usize>
     Ok((whole_of(n), next))
 }
 
-// Where the text goes wrong if no name stands at the place.
-fn name_end(text: &[u8], at: usize) -> usize
-    ensures { result ≡ name_end_lem at (column_of (slice_index text.now at)) }
-{
-    match byte_at(text, at) {
-        b'A'..=b'P' => at + 1,
-        _ => at,
-    }
-}
-
 /// The name at a place, the longest one.
 pub fn name(text: &[u8], at: usize) -> Result<(Cell, usize), usize>
     ensures { MatchResult result (λ p. NameAt text.now at (number_of p.0) p.1) (λ place. NoName text.now at place) }
 {
-    name_at(text, at).ok_or_else(|| name_end(text, at))
+    name_or_end(text, at)
 }
 
 /// The cells of a sum, by its first one and the count at a place.

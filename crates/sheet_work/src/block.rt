@@ -12,7 +12,7 @@ const LEAST: usize = 1;
 
 const MOST: usize = 8;
 
-/// 1 to 8 cells that follow one another. The type carries the proof that there are so many.
+/// At most 8 cells that follow one another. The type carries the proof that there are so many.
 #[derive(Clone, Copy)]
 pub struct Block {
     pub(crate) first: Cell,
@@ -22,6 +22,15 @@ pub struct Block {
 }
 
 impl Block {
+    /// No cells, before the first one: their total is 0.
+    pub fn empty(first: Cell) -> Block
+        ensures first { result.first ≡ first }
+        ensures none { result.count ≡ 0 }
+    {
+        let _ = first.number(); // the number of a cell is below CELLS
+        Block { first, count: 0 }
+    }
+
     /// So many cells from the first one on, if `sum` takes so many and there are so many.
     pub fn new(first: Cell, count: usize) -> Option<Block>
         ensures { option_map (λ b. (number_of b.first, b.count)) result ≡ block_of (number_of first) count }
