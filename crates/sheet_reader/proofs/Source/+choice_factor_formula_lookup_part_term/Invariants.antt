@@ -1,6 +1,5 @@
 use Rattle.std.proofs.Common.{◌+◌, ◌-◌, ◌*◌, length}
 use Rattle.formula.specs.Reader.{inside}
-use Rattle.sheet_work.specs.Flows.{Flow}
 use Rattle.sheet_reader.specs.Readers.{Took, NoProduct, term_start, term_after, formula_after}
 use Rattle.sheet_reader.proofs.Source.+choice_factor_formula_lookup_part_term.Given as goal
 
@@ -24,7 +23,7 @@ decreases-part l = (length l.self.now.text.now - l.at) * 5 + 4
 
 abbrev pub invariant-formula-loop-operator : goal.invariant-formula-loop-operator
 invariant-formula-loop-operator l =
-    ((from : Flow) → Took inside formula_after l.self.text.now l.at l.self.answers.now from l.initial.left l.initial.next → Took inside formula_after l.self.text.now l.at l.self.answers.now from l.left l.next)
+    Took inside formula_after l.self.text.now l.at l.self.answers.now l.fn.from l.left l.next
     × NoProduct l.self.text.now l.next
 
 abbrev pub decreases-formula-loop-operator : goal.decreases-formula-loop-operator
@@ -32,7 +31,7 @@ decreases-formula-loop-operator l = length l.self.text.now - l.next
 
 abbrev pub invariant-term-loop-operator : goal.invariant-term-loop-operator
 invariant-term-loop-operator l =
-    (from : Flow) → Took term_start term_after l.self.text.now l.at l.self.answers.now from l.initial.product l.initial.next → Took term_start term_after l.self.text.now l.at l.self.answers.now from l.product l.next
+    Took term_start term_after l.self.text.now l.at l.self.answers.now l.fn.from l.product l.next
 
 abbrev pub decreases-term-loop-operator : goal.decreases-term-loop-operator
 decreases-term-loop-operator l = length l.self.text.now - l.next
