@@ -1,3 +1,4 @@
+pub mod Exits
 pub mod Flows
 pub mod Parts
 pub mod Tokens

@@ -1,9 +1,9 @@
-use Rattle.std.proofs.lemmas.Result.{err_from_is_err_and}
+use Rattle.sheet_reader.proofs.Exits.{passed_on}
 use Rattle.sheet_reader.proofs.Parts.{whole_took, whole_left, whole_fails}
 use Rattle.sheet_reader.proofs.read.Goals as goal
 
 pub returns-in_err-got : goal.returns-in_err-got
-returns-in_err-got c = let p = err_from_is_err_and c.from_residual.result c.from_residual.ensures.1 in rw (p.1, p.2)
+returns-in_err-got c = rw (passed_on _ _ c.from_residual.ensures.1)
     (whole_fails c.args.text.now _ c.if-text-gt-TEXT.false c.in_err-got.ensures)
 
 pub returns-then-next-text : goal.returns-then-next-text
