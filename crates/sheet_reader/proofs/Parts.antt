@@ -48,7 +48,7 @@ closes_third u v w = record { others = λ t b n. cond-false (eqb b 41) _ none (n
 closes_lookup : (m : ℕ) (w : AtFactor) → Closes (in_lookup m w) 41
 closes_lookup m w = record { others = λ t b n. cond-false (eqb b 41) _ none (ne_eqb b 41 n); not_end = λ t. refl }
 
--- a start that is known stands in the text
+-- a start or a link that is known, and is not what stands behind the end, stands in the text
 pub start_within : (text : List ℕ) (at : ℕ) (s : Start) → start_of (get_or text at 0) ≡ s → (start_of 0 ≡ s → ⊥) → at < length text
 start_within text at s e n = inside_text text at (λ z. n (ap start_of (sym z) ∙ e))
 
