@@ -7,13 +7,15 @@ use Rattle.interfaces.specs.Cells.{text_limit}
 use Rattle.whole.specs.declared.Whole.{Whole}
 use Rattle.whole.specs.Whole.{whole_limit, whole_means}
 use Rattle.formula.specs.declared.byte.Operator.{Operator}
+use Rattle.formula.specs.declared.byte.Link.{Link}
 use Rattle.formula.specs.declared.byte.Link.TheVariants.{Weak, Strong, Loose}
+use Rattle.formula.specs.declared.byte.Start.{Start}
 use Rattle.formula.specs.declared.byte.Start.TheVariants.{Negation, Group, Choice, Lookup, Total, Digit, Column, Other}
 use Rattle.formula.specs.Bytes.{link_of, column_of, start_of}
 use Rattle.formula.specs.Grammar.{Tree, number, cell, negated, joined, choice, lookup, total}
 use Rattle.formula.specs.Meaning.{value, and_then, asked, looked_up, totalled}
-use Rattle.formula.specs.Reader.{Around, whole, in_group, in_first, in_second, in_third, in_lookup, AtTerm, first_term, after_sum, AtFactor, first_factor, after_product, behind_minus, as_factor, as_first, State, want, have, want_name, want_row, due, want_count, due_all, inside, hand, begin, shut, link, name_begins, counted, step, end, Reading, fails, ended, onward, run, reading}
-use Rattle.formula.proofs.Bytes.{start_column_is, column_at_lem, digit_at, negation_is, group_is, choice_is, lookup_is, total_is}
+use Rattle.formula.specs.Reader.{Around, whole, in_group, in_first, in_second, in_third, in_lookup, AtTerm, first_term, after_sum, AtFactor, after_product, behind_minus, as_factor, as_first, State, want, have, want_name, want_row, due, want_count, due_all, inside, hand, begin, shut, link, name_begins, counted, step, end, Reading, fails, ended, onward, run, reading}
+use Rattle.formula.proofs.Bytes.{start_column_is, column_at_lem, digit_at}
 use Rattle.formula.proofs.Runs.{run_end, run_stop, NoStrong, sum_ends, count_good}
 use Rattle.sheet_work.specs.Flows.{Flow, Worked, flow_after, outcome_of, go_on, work_from, negation, operation, chosen}
 use Rattle.sheet_reader.specs.Readers.{run_at, Failed, factor_after, term_start, term_after, formula_after, Took, NoProduct, Closes, TookPart, FailedPart, WholeRead, WholeFailed}
@@ -46,32 +48,17 @@ closes_third u v w = record { others = λ t b n. cond-false (eqb b 41) _ none (n
 closes_lookup : (m : ℕ) (w : AtFactor) → Closes (in_lookup m w) 41
 closes_lookup m w = record { others = λ t b n. cond-false (eqb b 41) _ none (ne_eqb b 41 n); not_end = λ t. refl }
 
--- a start that is known stands in the text
-pub choice_within : (text : List ℕ) (at : ℕ) → start_of (get_or text at 0) ≡ Choice → at < length text
-choice_within text at e = inside_text text at (λ z. let h = choice_is (get_or text at 0) e in omega arith)
+-- a start or a link that is known, and is not what stands behind the end, stands in the text
+pub start_within : (text : List ℕ) (at : ℕ) (s : Start) → start_of (get_or text at 0) ≡ s → (start_of 0 ≡ s → ⊥) → at < length text
+start_within text at s e n = inside_text text at (λ z. n (ap start_of (sym z) ∙ e))
 
-pub lookup_within : (text : List ℕ) (at : ℕ) → start_of (get_or text at 0) ≡ Lookup → at < length text
-lookup_within text at e = inside_text text at (λ z. let h = lookup_is (get_or text at 0) e in omega arith)
-
-pub total_within : (text : List ℕ) (at : ℕ) → start_of (get_or text at 0) ≡ Total → at < length text
-total_within text at e = inside_text text at (λ z. let h = total_is (get_or text at 0) e in omega arith)
-
-pub group_within : (text : List ℕ) (at : ℕ) → start_of (get_or text at 0) ≡ Group → at < length text
-group_within text at e = inside_text text at (λ z. let h = group_is (get_or text at 0) e in omega arith)
-
-pub negation_within : (text : List ℕ) (at : ℕ) → start_of (get_or text at 0) ≡ Negation → at < length text
-negation_within text at e = inside_text text at (λ z. let h = negation_is (get_or text at 0) e in omega arith)
-
-pub weak_within : (text : List ℕ) (at : ℕ) (o : Operator) → link_of (get_or text at 0) ≡ Weak o → at < length text
-weak_within text at o e = inside_text text at (λ z. let h : link_of 0 ≡ Weak o = ap link_of (sym z) ∙ e in let y : ◌≡◌ {A = ℕ} 0 1 = cc in omega arith)
-
-pub strong_within : (text : List ℕ) (at : ℕ) (o : Operator) → link_of (get_or text at 0) ≡ Strong o → at < length text
-strong_within text at o e = inside_text text at (λ z. let h : link_of 0 ≡ Strong o = ap link_of (sym z) ∙ e in let y : ◌≡◌ {A = ℕ} 0 1 = cc in omega arith)
+pub link_within : (text : List ℕ) (at : ℕ) (l : Link) → link_of (get_or text at 0) ≡ l → (link_of 0 ≡ l → ⊥) → at < length text
+link_within text at l e n = inside_text text at (λ z. n (ap link_of (sym z) ∙ e))
 
 -- `sum`
 module _ (text : List ℕ) (at : ℕ) (e : start_of (get_or text at 0) ≡ Total) where
   sum_begins : (w : AtFactor) → run_at text at (want w) ≡ run_at text (at + 1) (due_all (117 ∷ 109 ∷ 40 ∷ []) (want_name (as_first at w)))
-  sum_begins w = step_at_lem text at (want w) (due_all (117 ∷ 109 ∷ 40 ∷ []) (want_name (as_first at w))) (total_within text at e) (ap (begin at w) e)
+  sum_begins w = step_at_lem text at (want w) (due_all (117 ∷ 109 ∷ 40 ∷ []) (want_name (as_first at w))) (start_within text at Total e (λ h. cc)) (ap (begin at w) e)
 
   pub sum_word_failed : (place : ℕ) → Err place ≡ spelled text (at + 1) (117 ∷ 109 ∷ 40 ∷ []) → Failed want text at place
   sum_word_failed place f = failed_from want (due_all (117 ∷ 109 ∷ 40 ∷ [])) text at (at + 1) place (λ w. want_name (as_first at w)) sum_begins (spelled_err text (at + 1) (117 ∷ 109 ∷ 40 ∷ []) place f)
@@ -138,7 +125,7 @@ module _ (text : List ℕ) (at : ℕ) (e : start_of (get_or text at 0) ≡ Total
 -- `at`
 module _ (text : List ℕ) (at : ℕ) (e : start_of (get_or text at 0) ≡ Lookup) where
   lookup_begins : (w : AtFactor) → run_at text at (want w) ≡ run_at text (at + 1) (due_all (116 ∷ 40 ∷ []) (inside (in_lookup at w)))
-  lookup_begins w = step_at_lem text at (want w) (due_all (116 ∷ 40 ∷ []) (inside (in_lookup at w))) (lookup_within text at e) (ap (begin at w) e)
+  lookup_begins w = step_at_lem text at (want w) (due_all (116 ∷ 40 ∷ []) (inside (in_lookup at w))) (start_within text at Lookup e (λ h. cc)) (ap (begin at w) e)
 
   pub lookup_word_failed : (place : ℕ) → Err place ≡ spelled text (at + 1) (116 ∷ 40 ∷ []) → Failed want text at place
   lookup_word_failed place f = failed_from want (due_all (116 ∷ 40 ∷ [])) text at (at + 1) place (λ w. inside (in_lookup at w)) lookup_begins (spelled_err text (at + 1) (116 ∷ 40 ∷ []) place f)
@@ -166,7 +153,7 @@ module _ (text : List ℕ) (at : ℕ) (e : start_of (get_or text at 0) ≡ Looku
 -- `if`
 module _ (text : List ℕ) (at : ℕ) (e : start_of (get_or text at 0) ≡ Choice) where
   choice_begins : (w : AtFactor) → run_at text at (want w) ≡ run_at text (at + 1) (due_all (102 ∷ 40 ∷ []) (inside (in_first w)))
-  choice_begins w = step_at_lem text at (want w) (due_all (102 ∷ 40 ∷ []) (inside (in_first w))) (choice_within text at e) (ap (begin at w) e)
+  choice_begins w = step_at_lem text at (want w) (due_all (102 ∷ 40 ∷ []) (inside (in_first w))) (start_within text at Choice e (λ h. cc)) (ap (begin at w) e)
 
   pub choice_word_failed : (place : ℕ) → Err place ≡ spelled text (at + 1) (102 ∷ 40 ∷ []) → Failed want text at place
   choice_word_failed place f = failed_from want (due_all (102 ∷ 40 ∷ [])) text at (at + 1) place (λ w. inside (in_first w)) choice_begins (spelled_err text (at + 1) (102 ∷ 40 ∷ []) place f)
@@ -210,17 +197,17 @@ pub negation_took : (text : List ℕ) (at : ℕ) (answers : List Whole) (from : 
     → Took want factor_after text (at + 1) answers from w last → outcome_of answers r ≡ and_then (outcome_of answers w) negation → Took want factor_after text at answers from r last
 negation_took text at answers from w r last e p g = record {
   tree = negated p.tree;
-  runs = λ x. step_at_lem text at (want x) (want (behind_minus x)) (negation_within text at e) (ap (begin at x) e) ∙ p.runs (behind_minus x);
+  runs = λ x. step_at_lem text at (want x) (want (behind_minus x)) (start_within text at Negation e (λ h. cc)) (ap (begin at x) e) ∙ p.runs (behind_minus x);
   works = negated_flow answers from p.tree w r p.works g;
   onward = let a = p.onward in omega arith;
   fits = p.fits;
 }
 
 pub negation_failed : (text : List ℕ) (at place : ℕ) → start_of (get_or text at 0) ≡ Negation → Failed want text (at + 1) place → Failed want text at place
-negation_failed text at place e f = failed_from want want text at (at + 1) place behind_minus (λ x. step_at_lem text at (want x) (want (behind_minus x)) (negation_within text at e) (ap (begin at x) e)) f
+negation_failed text at place e f = failed_from want want text at (at + 1) place behind_minus (λ x. step_at_lem text at (want x) (want (behind_minus x)) (start_within text at Negation e (λ h. cc)) (ap (begin at x) e)) f
 
 group_begins : (text : List ℕ) (at : ℕ) → start_of (get_or text at 0) ≡ Group → (w : AtFactor) → run_at text at (want w) ≡ run_at text (at + 1) (inside (in_group w))
-group_begins text at e w = step_at_lem text at (want w) (inside (in_group w)) (group_within text at e) (ap (begin at w) e)
+group_begins text at e w = step_at_lem text at (want w) (inside (in_group w)) (start_within text at Group e (λ h. cc)) (ap (begin at w) e)
 
 pub group_took : (text : List ℕ) (at : ℕ) (answers : List Whole) (from : Flow) (w : Worked) (last : ℕ) → start_of (get_or text at 0) ≡ Group
     → TookPart text (at + 1) answers from 41 w last → Took want factor_after text at answers from w last
@@ -293,12 +280,9 @@ part_missed text at byte next place answers from w p e z o = let m = missed text
 }
 
 -- factors joined
-pub term_first : (text : List ℕ) (at next : ℕ) (answers : List Whole) (from : Flow) (w : Worked) → Took want factor_after text at answers from w next → Took term_start term_after text at answers from w next
-term_first text at next answers from w p = record { tree = p.tree; runs = λ x. p.runs (first_factor x); works = p.works; onward = p.onward; fits = p.fits }
-
 module _ (text : List ℕ) (at next : ℕ) (answers : List Whole) (from : Flow) (w : Worked) (o : Operator) (p : Took term_start term_after text at answers from w next) (e : link_of (get_or text next 0) ≡ Strong o) where
   term_links : (x : AtTerm) → run_at text at (term_start x) ≡ run_at text (next + 1) (want (after_product p.tree o next x))
-  term_links x = p.runs x ∙ step_at_lem text next (term_after p.tree x) (want (after_product p.tree o next x)) (strong_within text next o e) (ap (link next (record { tree = p.tree; wait = x }) (get_or text next 0)) e)
+  term_links x = p.runs x ∙ step_at_lem text next (term_after p.tree x) (want (after_product p.tree o next x)) (link_within text next (Strong o) e (λ h. cc)) (ap (link next (record { tree = p.tree; wait = x }) (get_or text next 0)) e)
 
   pub term_more_failed : (place : ℕ) → Failed want text (next + 1) place → Failed term_start text at place
   term_more_failed place f = failed_from term_start want text at (next + 1) place (after_product p.tree o next) term_links f
@@ -317,12 +301,9 @@ module _ (text : List ℕ) (at next : ℕ) (answers : List Whole) (from : Flow) 
 no_strong : (text : List ℕ) (at : ℕ) → NoProduct text at → NoStrong (drop at text)
 no_strong text at n = ⊎_elim (λ l. rw (drop_more text at 0 l) n) (λ l. rw (drop_all at text l) tt) (cases_lt at (length text))
 
-pub formula_first : (text : List ℕ) (at next : ℕ) (answers : List Whole) (from : Flow) (w : Worked) → Took term_start term_after text at answers from w next → Took inside formula_after text at answers from w next
-formula_first text at next answers from w p = record { tree = p.tree; runs = λ k. p.runs (first_term k); works = p.works; onward = p.onward; fits = p.fits }
-
 module _ (text : List ℕ) (at next : ℕ) (answers : List Whole) (from : Flow) (w : Worked) (o : Operator) (p : Took inside formula_after text at answers from w next) (e : link_of (get_or text next 0) ≡ Weak o) where
   formula_links : (k : Around) → run_at text at (inside k) ≡ run_at text (next + 1) (term_start (after_sum p.tree o next k))
-  formula_links k = p.runs k ∙ step_at_lem text next (formula_after p.tree k) (term_start (after_sum p.tree o next k)) (weak_within text next o e) (ap (link next (record { tree = p.tree; wait = first_term k }) (get_or text next 0)) e)
+  formula_links k = p.runs k ∙ step_at_lem text next (formula_after p.tree k) (term_start (after_sum p.tree o next k)) (link_within text next (Weak o) e (λ h. cc)) (ap (link next (record { tree = p.tree; wait = first_term k }) (get_or text next 0)) e)
 
   pub formula_more_failed : (place : ℕ) → Failed term_start text (next + 1) place → Failed inside text at place
   formula_more_failed place f = failed_from inside term_start text at (next + 1) place (after_sum p.tree o next) formula_links f

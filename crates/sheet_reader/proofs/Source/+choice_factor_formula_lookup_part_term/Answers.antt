@@ -1,7 +1,7 @@
-use Rattle.std.proofs.Common.{◌<◌, sym, arith}
+use Rattle.std.proofs.Common.{sym}
 use Rattle.std.proofs.lemmas.Result.{MatchResult-weaker}
 use Rattle.sheet_reader.proofs.Exits.{passed_on}
-use Rattle.sheet_reader.proofs.Parts.{weak_within, strong_within, lookup_word_failed, lookup_part_failed, lookup_took, choice_word_failed, choice_first_failed, choice_second_failed, choice_third_failed, choice_took, negation_took, negation_failed, group_took, group_failed, number_took, number_failed, name_took, cell_failed, other_failed, part_took, part_missed, term_more, term_more_failed, formula_more, formula_more_failed}
+use Rattle.sheet_reader.proofs.Parts.{lookup_word_failed, lookup_part_failed, lookup_took, choice_word_failed, choice_first_failed, choice_second_failed, choice_third_failed, choice_took, negation_took, negation_failed, group_took, group_failed, number_took, number_failed, name_took, cell_failed, other_failed, part_took, part_missed, term_more, term_more_failed, formula_more, formula_more_failed}
 use Rattle.sheet_reader.proofs.Source.+choice_factor_formula_lookup_part_term.Goals as goal
 
 -- `if`
@@ -74,10 +74,6 @@ pub part-returns : goal.part-returns
 part-returns t c = part_took c.args.self.now.text.now c.args.at c.args.byte c.in_ok-got.next _ c.args.self.now.answers.now c.args.from c.in_ok-got.got c.in_ok-got.ensures.0 c.in_ok-got.ensures.1 c.requires.1 c.in_ok-end.ensures
 
 -- factors joined
-pub term-factor-requires-in-Strong : goal.term-factor-requires-in-Strong
-term-factor-requires-in-Strong t c = let l = strong_within c.args.self.now.text.now c.loop-operator.next _ (sym c.in-Strong.ensures) in
-    let k : c.args.at < c.loop-operator.next = c.loop-operator.invariant.onward in (omega arith, omega arith)
-
 pub term-returns-in_err-right : goal.term-returns-in_err-right
 term-returns-in_err-right t c = rw (passed_on _ _ c.from_residual-in_err-right.ensures.1)
     (term_more_failed c.args.self.now.text.now c.args.at c.loop-operator.next c.args.self.now.answers.now c.args.from c.loop-operator.product c.in-Strong.operator c.loop-operator.invariant (sym c.in-Strong.ensures) _ c.in_err-right.ensures)
@@ -96,7 +92,3 @@ formula-loop-operator-preserved t c = (
   formula_more c.args.self.now.text.now c.args.at c.loop-operator.next c.args.self.now.answers.now c.args.from c.loop-operator.left c.in-Weak.operator c.loop-operator.invariant.0 (sym c.in-Weak.ensures) _ _ c.in_ok-right.right c.operate-left.result c.flow_after.ensures c.in_ok-right.ensures.0 c.in_ok-right.ensures.1 (c.operate-left.ensures c.args.self.now.answers.now),
   c.in_ok-right.ensures.1,
 )
-
-pub formula-term-requires-in-Weak : goal.formula-term-requires-in-Weak
-formula-term-requires-in-Weak t c = let l = weak_within c.args.self.now.text.now c.loop-operator.next _ (sym c.in-Weak.ensures) in
-    let k : c.args.at < c.loop-operator.next = c.loop-operator.invariant.0.onward in (omega arith, omega arith)
