@@ -1,5 +1,5 @@
 -- Whole numbers: their limits, what a record means, and how a number is written.
-use Rattle.std.specs.Prelude.{◌≡◌, ℕ, suc, ◌+◌, ◌-◌, ◌*◌, ◌<◌, ◌≤◌, Bool, false, cond, List, [], ◌∷◌, length, ℤ, pos, negsuc, Some, None, Option, ◌==◌, ◌≢◌, nat_le, slice_index_or, unsigned_abs}
+use Rattle.std.specs.Prelude.{◌≡◌, ℕ, suc, ◌+◌, ◌-◌, ◌*◌, ◌<◌, ◌≤◌, Bool, true, false, cond, not, List, [], ◌∷◌, length, ℤ, pos, negsuc, Some, None, decimal, Option, ◌==◌, ◌≢◌, nat_le, slice_index_or, unsigned_abs}
 use Rattle.std.specs.Fmt.{signed_decimal}
 use Rattle.std.specs.List.{AllByRecursion}
 use Rattle.whole.specs.declared.Whole.{Whole}
@@ -66,6 +66,16 @@ IsNumber bs (negsuc n) = (ds : List ℕ) × (bs ≡ 45 ∷ ds) × IsNumeral ds (
 -- within the limits, a number is written as the bytes that are its written form, and as no others
 abbrev pub WholeForm : Type 0
 WholeForm = (z : ℤ) (bs : List ℕ) → unsigned_abs z ≤ whole_limit → (written_whole z ≡ bs → IsNumber bs z) × (IsNumber bs z → written_whole z ≡ bs)
+
+-- whether digits are some, and begin with `0` only if it is alone
+abbrev pub begun_well : List ℕ → Bool
+begun_well [] = false
+begun_well (d ∷ []) = true
+begun_well (d ∷ e ∷ ds) = not (d == 48)
+
+-- digits that no number within the limits is written as
+abbrev pub NoNumeral : List ℕ → Type 0
+NoNumeral ds = (n : ℕ) → n ≤ whole_limit → decimal n ≢ ds
 
 -- bytes that no number within the limits is written as
 abbrev pub NoNumber : List ℕ → Type 0
