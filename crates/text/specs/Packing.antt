@@ -1,14 +1,15 @@
 -- Records of texts: their bytes, what a sound one means, and what is packed from a text and more. Assumes nothing of a record.
-use Rattle.std.specs.Prelude.{◌≡◌, ℕ, ◌-◌, ◌<◌, ◌≤◌, Bool, true, false, cond, ◌&&◌, leb, List, [], ◌++◌, length, take, drop, replicate, ◌≢◌, nat_le, refl}
-use Rattle.std.proofs.Common.{sym, ◌∙◌, arith, length-take, length-drop}
+use Rattle.std.specs.Prelude.{◌≡◌, ℕ, ◌+◌, ◌-◌, ◌<◌, ◌≤◌, Bool, true, false, cond, ◌&&◌, leb, List, [], ◌++◌, length, take, drop, replicate, Some, None, ◌≢◌, nat_le, refl}
+use Rattle.std.proofs.Common.{sym, ◌∙◌, arith, length-append, length-take, length-drop}
 use Rattle.std.proofs.Math.Path.{ap}
 use Rattle.std.proofs.lemmas.List.{take-append-drop, take_all, length-take-le}
 use Rattle.std.proofs.lemmas.Bool.Decides.{nat_tests}
 use Rattle.interfaces.specs.Printing.{padding}
-use Rattle.text.specs.Text.{printable_bytes, only_zeros, bytes_of, text_bytes, sound_text, text_blank, text_canon, text_means, text_packed, text_of}
+use Rattle.text.specs.Text.{printable_bytes, only_zeros, bytes_of, text_bytes, sound_text, text_blank, text_canon, text_means, text_packed, text_of, text_extended}
 use Rattle.text.specs.declared.Text.{Text}
 use Rattle.text.specs.Every.{zeros_from_all}
 use Rattle.text.specs.Words.{word_of_bytes_of}
+use Rattle.interfaces.proofs.Zeros.{front_padding}
 
 pub length_text_bytes : (t : Text) → length (text_bytes t) ≡ 32
 unfolding bytes_of
@@ -123,3 +124,20 @@ too_long bs h t e = omega (arith, ap length e, (form t).short)
 
 pub not_printable : (bs : List ℕ) → printable_bytes bs ≡ false → (t : Text) → text_means t ≢ bs
 not_printable bs h t e = let z : true ≡ false = sym (form t).printable ∙ (ap printable_bytes e ∙ h) in grind arith
+
+-- the record that is packed from a text and bytes behind it
+pub packed_more : (t : Text) (bs more bytes both : List ℕ) (n : ℕ) → bytes ≡ padding bs → n ≡ length bs → both ≡ padding (take (n - 0) bytes ++ more) → t ≡ text_packed both (n + length more) → t ≡ text_of (bs ++ more)
+packed_more t bs more bytes both n e l b p =
+    let q : both ≡ padding (bs ++ more) = b ∙ ap (λ cs. padding (cs ++ more)) (front_padding bs bytes n e l) in
+    let k : n + length more ≡ length (bs ++ more) = simp length-append (omega arith) in
+    p ∙ (ap (λ cs. text_packed cs (n + length more)) q ∙ ap (text_packed (padding (bs ++ more))) k)
+
+pub extended_some : (t u : Text) (more : List ℕ) → length (text_means t) + length more ≤ 32 → u ≡ text_of (text_means t ++ more) → Some u ≡ text_extended t more
+extended_some t u more h e =
+    let l : leb (length (text_means t) + length more) 32 ≡ true = grind (arith, nat_tests) in
+    ap Some e ∙ sym (ap (λ b. cond b (Some (text_of (text_means t ++ more))) None) l)
+
+pub extended_none : (t : Text) (more : List ℕ) → 32 < length (text_means t) + length more → None ≡ text_extended t more
+extended_none t more h =
+    let l : leb (length (text_means t) + length more) 32 ≡ false = grind (arith, nat_tests) in
+    sym (ap (λ b. cond b (Some (text_of (text_means t ++ more))) None) l)
