@@ -14,7 +14,7 @@ ghost use Rattle.sheet_parts.specs.Tokens.{stands_at_lem, spelled, whole_of, num
 use formula::byte::{Link, Start, link_of, start_of};
 use interfaces::cell::Cell;
 use interfaces::value::Value;
-use names::name_or_end;
+use names::{name_or_end, offset_at};
 use sheet_work::block::Block;
 use whole::Whole;
 
@@ -51,10 +51,7 @@ pub fn link_at(text: &[u8], at: usize) -> Link
 fn digit_at(text: &[u8], at: usize) -> Option<u8>
     ensures { MatchOption result (digit_of (slice_index text.now at) ≡ none) (λ d. (digit_of (slice_index text.now at) ≡ some d) × (d < 10)) }
 {
-    match byte_at(text, at) {
-        b @ b'0'..=b'9' => Some(b - b'0'),
-        _ => None,
-    }
+    offset_at(text, at, b'0', b'9')
 }
 
 // Whether a byte stands at a place.
