@@ -8,7 +8,7 @@ ghost use Rattle.fragment_grammar.specs.Reader.{is_column, is_plain, name_in, na
 ghost use Rattle.fragment.specs.Readings.{item_means, read_means, placed, row_answer};
 
 use interfaces::cell::Cell;
-use names::name_or_end;
+use names::{name_or_end, stands_at};
 
 /// A part of a fragment.
 #[derive(Clone, Copy)]
@@ -19,15 +19,6 @@ pub enum Item {
     Insert(Cell),
     /// The text of the second cell if that of the first is not empty, else that of the third.
     Choice(Cell, Cell, Cell),
-}
-
-// Whether the byte stands at the place.
-fn stands_at(text: &[u8], at: usize, byte: u8) -> bool
-    requires { 0 < byte }
-    ensures is { result ≡ ((slice_index text.now at) == byte) }
-    ensures within { result ≡ true → at < length text.now }
-{
-    text.get(at) == Some(&byte)
 }
 
 fn cell_from(text: &[u8], at: usize) -> Result<(Cell, usize), usize>

@@ -20,9 +20,9 @@ digit_within text at d e = byte_within text at (λ z. let h = digit_is (get_or t
 pub digit_by : (text : List ℕ) (at : ℕ) (r : Maybe ℕ) → OffsetAt text at 48 57 r → MatchOption r (digit_of (get_or text at 0) ≡ none) (λ d. (digit_of (get_or text at 0) ≡ some d) × (d < 10))
 digit_by text at (Some d) h = let l = h.0 in (ap digit_of h.1.1 ∙ digit_at d (omega arith), omega arith)
 digit_by text at None h = go (digit_of (get_or text at 0)) refl where
-    go : (o : Option ℕ) → digit_of (get_or text at 0) ≡ o → digit_of (get_or text at 0) ≡ none
-    go none e = e
-    go (some d) e = let b = digit_is (get_or text at 0) d e in let l = b.0 in absurd (h d (omega arith) (digit_within text at d e, b.1))
+  go : (o : Option ℕ) → digit_of (get_or text at 0) ≡ o → digit_of (get_or text at 0) ≡ none
+  go none e = e
+  go (some d) e = let b = digit_is (get_or text at 0) d e in let l = b.0 in absurd (h d (omega arith) (digit_within text at d e, b.1))
 
 module _ (text : List ℕ) (at n : ℕ) where
   pub digits_by : (d : ℕ) → digit_of (get_or text at 0) ≡ some d → digits_from at n (drop at text) ≡ one_digit at n (some d) (λ m. digits_from (at + 1) m (drop (at + 1) text))

@@ -9,12 +9,12 @@ ghost use Rattle.interfaces.specs.Cells.{number_of};
 ghost use Rattle.names.specs.Names.{NameAt};
 ghost use Rattle.whole.specs.Whole.{whole_limit};
 ghost use Rattle.formula.specs.Bytes.{link_of, digit_of, start_of};
-ghost use Rattle.sheet_parts.specs.Tokens.{stands_at_lem, spelled, whole_of, number_in, NoName, count_means, count_in};
+ghost use Rattle.sheet_parts.specs.Tokens.{spelled, whole_of, number_in, NoName, count_means, count_in};
 
 use formula::byte::{Link, Start, link_of, start_of};
 use interfaces::cell::Cell;
 use interfaces::value::Value;
-use names::{name_or_end, offset_at};
+use names::{name_or_end, offset_at, stands_at};
 use sheet_work::block::Block;
 use whole::Whole;
 
@@ -52,13 +52,6 @@ fn digit_at(text: &[u8], at: usize) -> Option<u8>
     ensures { MatchOption result (digit_of (slice_index text.now at) ≡ none) (λ d. (digit_of (slice_index text.now at) ≡ some d) × (d < 10)) }
 {
     offset_at(text, at, b'0', b'9')
-}
-
-// Whether a byte stands at a place.
-fn stands_at(text: &[u8], at: usize, byte: u8) -> bool
-    ensures { result ≡ stands_at_lem text.now at byte }
-{
-    text.get(at) == Some(&byte)
 }
 
 /// The place after a byte, if that byte stands there.
