@@ -16,10 +16,7 @@ use interfaces::cell::Cell;
 use interfaces::value::Value;
 use names::{name_or_end, offset_at, stands_at};
 use sheet_work::block::Block;
-use whole::Whole;
-
-// how large a number may be
-const LIMIT: u64 = 1_000_000_000;
+use whole::{LIMIT, Whole};
 
 const BASE: u64 = 10;
 
@@ -65,6 +62,8 @@ pub fn expect(text: &[u8], at: usize, byte: u8) -> Result<usize, usize>
 pub fn spell(text: &[u8], at: usize, word: &[u8]) -> Result<usize, usize>
     ensures { result ≡ spelled text.now at word.now }
 {
+    // tried: `zip` and `position`, or `take_while` and `count`; where the text ends inside the word they need a branch
+    // of their own, and the proof did not close
     for (i, byte) in word.iter().enumerate() {
         if !stands_at(text, at + i, *byte) {
             return Err(at + i);
@@ -96,7 +95,7 @@ pub fn number(text: &[u8], at: usize) -> Result<(Whole, usize), usize>
     let mut n = u64::from(first);
     while let Some(digit) = digit_at(text, next) {
         n = n * BASE + u64::from(digit);
-        if n > LIMIT {
+        if n > u64::from(LIMIT) {
             return Err(next);
         }
         next += 1;
