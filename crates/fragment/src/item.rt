@@ -21,6 +21,7 @@ pub enum Item {
     Choice(Cell, Cell, Cell),
 }
 
+// The cell whose name stands at a place. It says in the words of the grammar of fragments what `name_or_end` finds.
 fn cell_from(text: &[u8], at: usize) -> Result<(Cell, usize), usize>
     requires { at ≤ length text.now }
     ensures reads { read_means number_of result ≡ placed at (name_in (drop at text.now)) }

@@ -44,7 +44,7 @@ pub fn link_at(text: &[u8], at: usize) -> Link
     link_of(byte_at(text, at))
 }
 
-// The digit at a place.
+// The digit at a place. It says in the words of the grammar of formulas what `offset_at` finds.
 fn digit_at(text: &[u8], at: usize) -> Option<u8>
     ensures { MatchOption result (digit_of (slice_index text.now at) ≡ none) (λ d. (digit_of (slice_index text.now at) ≡ some d) × (d < 10)) }
 {
@@ -62,8 +62,8 @@ pub fn expect(text: &[u8], at: usize, byte: u8) -> Result<usize, usize>
 pub fn spell(text: &[u8], at: usize, word: &[u8]) -> Result<usize, usize>
     ensures { result ≡ spelled text.now at word.now }
 {
-    // tried: `zip` and `position`, or `take_while` and `count`; where the text ends inside the word they need a branch
-    // of their own, and the proof did not close
+    // tried: `try_fold`, `zip` with `position`, and `take_while` with `count`; the check does not find the proof, which
+    // would go by what each ensures of the calls of its closure
     for (i, byte) in word.iter().enumerate() {
         if !stands_at(text, at + i, *byte) {
             return Err(at + i);
@@ -103,6 +103,7 @@ pub fn number(text: &[u8], at: usize) -> Result<(Whole, usize), usize>
     Ok((whole_of(n), next))
 }
 
+// It says in the words of the grammar of formulas what `name_or_end` finds.
 /// The name at a place, the longest one.
 pub fn name(text: &[u8], at: usize) -> Result<(Cell, usize), usize>
     ensures { MatchResult result (λ p. NameAt text.now at (number_of p.0) p.1) (λ place. NoName text.now at place) }
