@@ -1,10 +1,11 @@
 -- The readers of the code read what the readers of the grammar read. Assumes nothing.
-use Rattle.std.proofs.Common.{◌≡◌, ℕ, suc, ◌+◌, ◌<◌, ◌≤◌, Bool, true, false, cond, eqb, leb, ltb, ◌&&◌, List, [], length, get_or, take, drop, Ok, Err, Result, MatchResult, sym, refl, ap, ◌∙◌, subst, arith}
-use Rattle.std.proofs.lemmas.List.{drop-drop, drop_all, get_or-drop, take_at, length-append, length-drop, length-take-le}
-use Rattle.std.proofs.lemmas.Bool.{cond-true, cond-false}
+use Rattle.std.proofs.Common.{◌≡◌, ℕ, suc, ◌+◌, ◌<◌, ◌≤◌, Bool, true, false, cond, eqb, leb, ltb, ◌&&◌, List, [], length, get_or, take, drop, Ok, Err, Result, MatchResult, sym, refl, ap, ◌∙◌, subst, ⊎_elim, arith}
+use Rattle.std.proofs.lemmas.List.{drop-drop, drop_all, get_or_past, get_or-drop, take_at, length-append, length-drop, length-take-le}
+use Rattle.std.proofs.lemmas.Bool.{cases_lt, cond-true, cond-false}
+use Rattle.std.proofs.lemmas.Bool.Decides.{nat_tests}
 use Rattle.interfaces.specs.Cells.{number_of}
 use Rattle.interfaces.specs.declared.cell.Cell.{Cell}
-use Rattle.names.specs.Names.{name_of, NameAt, NoNameAt, LeftAt}
+use Rattle.names.specs.Names.{byte_stands, name_of, NameAt, NoNameAt, LeftAt}
 use Rattle.fragment_grammar.specs.Grammar.{Item, plain, insert, written, opening, closing, question, Sound}
 use Rattle.fragment_grammar.specs.Reader.{Read, got, stuck, further, and_then, head, nothing, led, is_column, is_first, is_second, name_in, named, filled_in, tested_in, is_plain, item_in, Rows, row, astray, fronted, rows}
 use Rattle.fragment_grammar.proofs.Reading.{Right}
@@ -24,6 +25,13 @@ ok_pair {A} a c m n e = let p : ◌≡◌ {A = A × ℕ} (a, m) (c, n) = cc in (
 pub placed_further : {A : Type 0} (at w : ℕ) (r : Read A) → placed at (further w r) ≡ placed (at + w) r
 placed_further at w (got a v) = let e : at + (w + v) ≡ at + w + v = omega arith in ap (λ n. Ok (a, n)) e
 placed_further at w (stuck p) = let e : at + (w + p) ≡ at + w + p = omega arith in ap Err e
+
+-- a byte other than 0 stands at a place if it is what is read there; past the end 0 is read
+pub stands_yes : (text : List ℕ) (at b : ℕ) → true ≡ byte_stands text at b → true ≡ eqb (get_or text at 0) b
+stands_yes text at b e = grind (arith, nat_tests)
+
+pub stands_no : (text : List ℕ) (at b : ℕ) → 0 < b → false ≡ byte_stands text at b → false ≡ eqb (get_or text at 0) b
+stands_no text at b z e = ⊎_elim (λ l. grind (arith, nat_tests)) (λ l. let g = get_or_past text at 0 l in grind (arith, nat_tests)) (cases_lt at (length text))
 
 -- a byte and what comes behind it
 module _ {A : Type 0} (text : List ℕ) (at b : ℕ) (go : List ℕ → Read A) where

@@ -8,7 +8,7 @@ ghost use Rattle.fragment_grammar.specs.Reader.{is_column, is_plain, name_in, na
 ghost use Rattle.fragment.specs.Readings.{item_means, read_means, placed, row_answer};
 
 use interfaces::cell::Cell;
-use names::name_or_end;
+use names::{name_or_end, stands_at};
 
 /// A part of a fragment.
 #[derive(Clone, Copy)]
@@ -21,15 +21,7 @@ pub enum Item {
     Choice(Cell, Cell, Cell),
 }
 
-// Whether the byte stands at the place.
-fn stands_at(text: &[u8], at: usize, byte: u8) -> bool
-    requires { 0 < byte }
-    ensures is { result ≡ ((slice_index text.now at) == byte) }
-    ensures within { result ≡ true → at < length text.now }
-{
-    text.get(at) == Some(&byte)
-}
-
+// The cell whose name stands at a place. It says in the words of the grammar of fragments what `name_or_end` finds.
 fn cell_from(text: &[u8], at: usize) -> Result<(Cell, usize), usize>
     requires { at ≤ length text.now }
     ensures reads { read_means number_of result ≡ placed at (name_in (drop at text.now)) }

@@ -1,11 +1,15 @@
 -- The names of cells: a column letter and a row without leading zero.
-use Rattle.std.specs.Prelude.{◌≡◌, ℕ, ◌+◌, ◌/◌, ◌%◌, ◌<◌, ◌≤◌, cond, List, [], ◌∷◌, ◌++◌, length, drop, Option, MatchOption, ◌≢◌, nat_le, nat_lt, slice_index}
+use Rattle.std.specs.Prelude.{◌≡◌, ℕ, ◌+◌, ◌/◌, ◌%◌, ◌<◌, ◌≤◌, Bool, cond, ◌&&◌, List, [], ◌∷◌, ◌++◌, length, drop, Option, MatchOption, ◌≢◌, ◌==◌, nat_le, nat_lt, slice_index}
 use Rattle.interfaces.specs.declared.cell.Cell.{Cell}
 use Rattle.interfaces.specs.Cells.{cell_count, number_of}
 
 -- the byte `b` stands at the place
 abbrev pub ByteAt : List ℕ → ℕ → ℕ → Type 0
 ByteAt text at b = (at < length text) × (slice_index text at ≡ b)
+
+-- whether the byte `b` stands at the place
+abbrev pub byte_stands : List ℕ → ℕ → ℕ → Bool
+byte_stands text at b = nat_lt at (length text) && slice_index text at == b
 
 -- how far behind `first` the byte at the place comes, if it is one from `first` to `last`
 abbrev pub OffsetAt : List ℕ → ℕ → ℕ → ℕ → Option ℕ → Type 0

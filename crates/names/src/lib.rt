@@ -4,7 +4,7 @@
 ghost use Rattle.std.specs.Prelude.{◌≡◌, ℕ, ◌+◌, ◌<◌, ◌≤◌, length, MatchOption, MatchResult, slice_index};
 ghost use Rattle.interfaces.specs.Cells.{cell_count, number_of};
 ghost use Rattle.interfaces.specs.Printing.{written_bytes};
-ghost use Rattle.names.specs.Names.{name_of, OffsetAt, NameAt, NoNameAt, left_at, LeftAt, Named, OneName};
+ghost use Rattle.names.specs.Names.{byte_stands, name_of, OffsetAt, NameAt, NoNameAt, left_at, LeftAt, Named, OneName};
 
 use interfaces::cell::{CELLS, Cell};
 use interfaces::written::Written;
@@ -26,6 +26,13 @@ pub fn offset_at(text: &[u8], at: usize, first: u8, last: u8) -> Option<u8>
     } else {
         None
     }
+}
+
+/// Whether a byte stands at a place.
+pub fn stands_at(text: &[u8], at: usize, byte: u8) -> bool
+    ensures { result ≡ byte_stands text.now at byte }
+{
+    text.get(at) == Some(&byte)
 }
 
 /// The name that stands at a place, the longest one: its cell, and the place that follows.

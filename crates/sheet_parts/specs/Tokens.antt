@@ -1,23 +1,19 @@
 -- The smallest parts of a formula at a place of a text. What is read comes with the place behind it, and what
 -- cannot be read with the place where the text goes wrong.
-use Rattle.std.specs.Prelude.{◌≡◌, ℕ, ◌+◌, ◌*◌, Bool, cond, ◌&&◌, List, [], ◌∷◌, length, drop, pos, Some, None, Ok, Err, Option as Maybe, Result, ◌==◌, nat_le, nat_lt, slice_index}
+use Rattle.std.specs.Prelude.{◌≡◌, ℕ, ◌+◌, ◌*◌, cond, List, [], ◌∷◌, drop, pos, Some, None, Ok, Err, Option as Maybe, Result, ◌==◌, nat_le, slice_index}
 use Rattle.std.proofs.Math.Option.{Option, none, some}
 use Rattle.interfaces.specs.Cells.{number_of}
-use Rattle.names.specs.Names.{NoNameAt}
+use Rattle.names.specs.Names.{byte_stands, NoNameAt}
 use Rattle.whole.specs.declared.Whole.{Whole}
 use Rattle.whole.specs.Whole.{whole_limit}
 use Rattle.formula.specs.Bytes.{digit_of, column_of}
 use Rattle.sheet_work.specs.declared.block.Block.{Block}
 use Rattle.sheet_work.specs.Blocks.{block_of}
 
--- whether the byte stands at the place
-abbrev pub stands_at_lem : List ℕ → ℕ → ℕ → Bool
-stands_at_lem text at b = nat_lt at (length text) && slice_index text at == b
-
 -- the bytes of a word, one after another
 abbrev pub spelled : List ℕ → ℕ → List ℕ → Result ℕ ℕ
 spelled text at [] = Ok at
-spelled text at (b ∷ bs) = cond (stands_at_lem text at b) (spelled text (at + 1) bs) (Err at)
+spelled text at (b ∷ bs) = cond (byte_stands text at b) (spelled text (at + 1) bs) (Err at)
 
 -- a number
 abbrev pub whole_of : ℕ → Whole

@@ -9,17 +9,14 @@ ghost use Rattle.interfaces.specs.Cells.{number_of};
 ghost use Rattle.names.specs.Names.{NameAt};
 ghost use Rattle.whole.specs.Whole.{whole_limit};
 ghost use Rattle.formula.specs.Bytes.{link_of, digit_of, start_of};
-ghost use Rattle.sheet_parts.specs.Tokens.{stands_at_lem, spelled, whole_of, number_in, NoName, count_means, count_in};
+ghost use Rattle.sheet_parts.specs.Tokens.{spelled, whole_of, number_in, NoName, count_means, count_in};
 
 use formula::byte::{Link, Start, link_of, start_of};
 use interfaces::cell::Cell;
 use interfaces::value::Value;
-use names::name_or_end;
+use names::{name_or_end, offset_at, stands_at};
 use sheet_work::block::Block;
-use whole::Whole;
-
-// how large a number may be
-const LIMIT: u64 = 1_000_000_000;
+use whole::{LIMIT, Whole};
 
 const BASE: u64 = 10;
 
@@ -47,21 +44,11 @@ pub fn link_at(text: &[u8], at: usize) -> Link
     link_of(byte_at(text, at))
 }
 
-// The digit at a place.
+// The digit at a place. It says in the words of the grammar of formulas what `offset_at` finds.
 fn digit_at(text: &[u8], at: usize) -> Option<u8>
     ensures { MatchOption result (digit_of (slice_index text.now at) ≡ none) (λ d. (digit_of (slice_index text.now at) ≡ some d) × (d < 10)) }
 {
-    match byte_at(text, at) {
-        b @ b'0'..=b'9' => Some(b - b'0'),
-        _ => None,
-    }
-}
-
-// Whether a byte stands at a place.
-fn stands_at(text: &[u8], at: usize, byte: u8) -> bool
-    ensures { result ≡ stands_at_lem text.now at byte }
-{
-    text.get(at) == Some(&byte)
+    offset_at(text, at, b'0', b'9')
 }
 
 /// The place after a byte, if that byte stands there.
@@ -75,6 +62,8 @@ pub fn expect(text: &[u8], at: usize, byte: u8) -> Result<usize, usize>
 pub fn spell(text: &[u8], at: usize, word: &[u8]) -> Result<usize, usize>
     ensures { result ≡ spelled text.now at word.now }
 {
+    // tried: `try_fold`, `zip` with `position`, and `take_while` with `count`; the check does not find the proof, which
+    // would go by what each ensures of the calls of its closure
     for (i, byte) in word.iter().enumerate() {
         if !stands_at(text, at + i, *byte) {
             return Err(at + i);
@@ -106,7 +95,7 @@ pub fn number(text: &[u8], at: usize) -> Result<(Whole, usize), usize>
     let mut n = u64::from(first);
     while let Some(digit) = digit_at(text, next) {
         n = n * BASE + u64::from(digit);
-        if n > LIMIT {
+        if n > u64::from(LIMIT) {
             return Err(next);
         }
         next += 1;
@@ -114,6 +103,7 @@ pub fn number(text: &[u8], at: usize) -> Result<(Whole, usize), usize>
     Ok((whole_of(n), next))
 }
 
+// It says in the words of the grammar of formulas what `name_or_end` finds.
 /// The name at a place, the longest one.
 pub fn name(text: &[u8], at: usize) -> Result<(Cell, usize), usize>
     ensures { MatchResult result (λ p. NameAt text.now at (number_of p.0) p.1) (λ place. NoName text.now at place) }

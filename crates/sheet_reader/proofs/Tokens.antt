@@ -5,7 +5,7 @@ use Rattle.std.proofs.lemmas.Bool.Decides.{nat_tests}
 use Rattle.std.proofs.lemmas.Bool.{cases_lt, cond-true, cond-false, cond_both, eq-eqb, lt-leb, ltb-true, ltb-false, leb-true, eqb-true, and_parts, and_cases}
 use Rattle.std.proofs.lemmas.List.{drop_more, drop_all, get_or_past, length-drop, length-append}
 use Rattle.interfaces.specs.Cells.{cell_count}
-use Rattle.names.specs.Names.{row_count, column_count, row_name, name_of, NameAt, NoNameAt}
+use Rattle.names.specs.Names.{byte_stands, row_count, column_count, row_name, name_of, NameAt, NoNameAt}
 use Rattle.whole.specs.declared.Whole.{Whole}
 use Rattle.whole.specs.Whole.{whole_limit}
 use Rattle.formula.specs.declared.byte.Link.TheVariants.{Loose}
@@ -16,7 +16,7 @@ use Rattle.formula.specs.Reader.{Around, whole, in_group, in_first, in_second, i
 use Rattle.formula.proofs.Bytes.{digit_at, digit_is, column_is, column_at_lem, start_digit_is}
 use Rattle.formula.proofs.Runs.{run_step, run_stop, run_end, NoDigit, number_ends, row_ends, row_run, cell_is}
 use Rattle.formula.proofs.Sound.{name_is, name_long}
-use Rattle.sheet_parts.specs.Tokens.{stands_at_lem, spelled, whole_of, one_digit, digits_from, number_from, number_in, name_end_lem, NoName, block_at, count_from, count_in}
+use Rattle.sheet_parts.specs.Tokens.{spelled, whole_of, one_digit, digits_from, number_from, number_in, name_end_lem, NoName, block_at, count_from, count_in}
 use Rattle.sheet_reader.specs.Readers.{run_at, Failed}
 
 pub step_at_lem : (text : List ℕ) (at : ℕ) (st next : State) → at < length text → step at st (get_or text at 0) ≡ some next → run_at text at st ≡ run_at text (at + 1) next
@@ -43,12 +43,12 @@ abbrev SpelledAs : List ℕ → ℕ → List ℕ → Result ℕ ℕ → Type 0
 SpelledAs text at word (Ok next) = Spelled text at word next
 SpelledAs text at word (Err place) = Failed (due_all word) text at place
 
-word_step : (text : List ℕ) (at b : ℕ) (bs : List ℕ) → stands_at_lem text at b ≡ true → (st : State) → run_at text at (due b bs st) ≡ run_at text (at + 1) (due_all bs st)
+word_step : (text : List ℕ) (at b : ℕ) (bs : List ℕ) → byte_stands text at b ≡ true → (st : State) → run_at text at (due b bs st) ≡ run_at text (at + 1) (due_all bs st)
 word_step text at b bs e st =
     let p = and_parts _ _ e in
     step_at_lem text at (due b bs st) (due_all bs st) (ltb-true at (length text) p.0) (cond-true (eqb (get_or text at 0) b) (some (due_all bs st)) none p.1)
 
-word_front : (text : List ℕ) (at b : ℕ) (bs : List ℕ) → stands_at_lem text at b ≡ true → (r : Result ℕ ℕ) → SpelledAs text (at + 1) bs r → SpelledAs text at (b ∷ bs) r
+word_front : (text : List ℕ) (at b : ℕ) (bs : List ℕ) → byte_stands text at b ≡ true → (r : Result ℕ ℕ) → SpelledAs text (at + 1) bs r → SpelledAs text at (b ∷ bs) r
 word_front text at b bs e (Ok next) h =
     let p = and_parts _ _ e in
     let l = ltb-true at (length text) p.0 in
@@ -57,7 +57,7 @@ word_front text at b bs e (Ok next) h =
     record { runs = λ st. word_step text at b bs e st ∙ h.runs st; next_is = omega arith; fits = λ i. omega arith }
 word_front text at b bs e (Err place) h = record { stops = λ st. word_step text at b bs e st ∙ h.stops st }
 
-word_stop : (text : List ℕ) (at b : ℕ) (bs : List ℕ) → stands_at_lem text at b ≡ false → (st : State) → run_at text at (due b bs st) ≡ fails at
+word_stop : (text : List ℕ) (at b : ℕ) (bs : List ℕ) → byte_stands text at b ≡ false → (st : State) → run_at text at (due b bs st) ≡ fails at
 word_stop text at b bs e st = ⊎_elim
     (λ l. ap (run at (due b bs st)) (drop_all at text (ltb-false at (length text) l)) ∙ run_end at (due b bs st))
     (λ n. stop_at text at (due b bs st) (cond-false (eqb (get_or text at 0) b) (some (due_all bs st)) none n) refl)
@@ -65,7 +65,7 @@ word_stop text at b bs e st = ⊎_elim
 
 spelled_run : (text word : List ℕ) (at : ℕ) → SpelledAs text at word (spelled text at word)
 spelled_run text [] at = record { runs = λ st. refl; next_is = omega arith; fits = λ l. l }
-spelled_run text (b ∷ bs) at = cond_both (stands_at_lem text at b) (spelled text (at + 1) bs) (Err at) (SpelledAs text at (b ∷ bs))
+spelled_run text (b ∷ bs) at = cond_both (byte_stands text at b) (spelled text (at + 1) bs) (Err at) (SpelledAs text at (b ∷ bs))
     (λ e. word_front text at b bs e (spelled text (at + 1) bs) (spelled_run text bs (at + 1)))
     (λ e. record { stops = word_stop text at b bs e })
 
@@ -90,7 +90,7 @@ MetAs text at byte (Ok next) = Met text at byte next
 MetAs text at byte (Err place) = Missed text at byte place
 
 met_run : (text : List ℕ) (at byte : ℕ) → 0 < byte → MetAs text at byte (spelled text at (byte ∷ []))
-met_run text at byte z = cond_both (stands_at_lem text at byte) (Ok (at + 1)) (Err at) (MetAs text at byte)
+met_run text at byte z = cond_both (byte_stands text at byte) (Ok (at + 1)) (Err at) (MetAs text at byte)
     (λ e. let p = and_parts _ _ e in record { next_is = refl; within = ltb-true at (length text) p.0; is = eqb-true _ _ p.1 })
     (λ e. record {
       place_is = refl;

@@ -38,6 +38,7 @@ impl<'a> Source<'a> {
             (λ place. Failed inside self.now.text.now at place) }
     {
         let (mut left, mut next) = self.term(at, from)?;
+        // the place is no count of rounds: it is what the reader answers, and each part says where the next one begins
         while let Link::Weak(operator) = link_at(self.text, next) {
             let (right, end) = self.term(next + 1, flow_after(left))?;
             left = operate(operator, next as u16, left, right);
@@ -55,6 +56,7 @@ impl<'a> Source<'a> {
             (λ place. Failed term_start self.now.text.now at place) }
     {
         let (mut product, mut next) = self.factor(at, from)?;
+        // as in `formula`, the place is what the reader answers, and no count of rounds
         while let Link::Strong(operator) = link_at(self.text, next) {
             let (right, end) = self.factor(next + 1, flow_after(product))?;
             product = operate(operator, next as u16, product, right);

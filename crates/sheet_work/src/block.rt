@@ -41,6 +41,20 @@ impl Block {
         Some(Block { first, count })
     }
 
+    /// The first cell, or for no cells the one that they stand before.
+    pub fn first(self) -> Cell
+        ensures { result ≡ self.first }
+    {
+        self.first
+    }
+
+    /// How many cells they are.
+    pub fn count(self) -> usize
+        ensures { result ≡ self.count }
+    {
+        self.count
+    }
+
     // The cell so many places behind the first one.
     pub(crate) fn cell(self, place: usize) -> Cell
         requires { place < self.count }

@@ -157,6 +157,7 @@ fn add_up(mark: u16, cells: Block, answers: &[Whole], used: usize) -> Worked
     if rest.len() < cells.count {
         return Err(Step::Ask(cells.cell(rest.len())));
     }
+    // tried: `map` and `sum`, which asks first that no partial sum is too large; the check does not find that
     let mut sum: i64 = 0;
     for answer in &rest[..cells.count] {
         sum += i64::from(answer.value());

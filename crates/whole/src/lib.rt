@@ -13,8 +13,8 @@ use interfaces::value::{Printed, Value};
 use interfaces::written::Written;
 use itoa::{Buffer, Integer};
 
-// how far a whole number may lie from 0
-const LIMIT: u32 = 1_000_000_000;
+/// How far a whole number may lie from 0.
+pub const LIMIT: u32 = 1_000_000_000;
 
 /// A whole number within limits.
 #[derive(Clone, Copy)]
