@@ -16,7 +16,8 @@ use interfaces::step::{LanguageFault, Step};
 use interfaces::value::Value;
 use whole::Whole;
 
-/// The fault of a definition both of whose cells are 0.
+/// The fault of a definition both of whose cells are 0. It is this language's one fault, and a fault's `number` is a
+/// plain byte in every language, so an enum of one would name it twice.
 pub const UNSET: u8 = 40;
 
 // how many bytes a definition has
@@ -57,13 +58,9 @@ fn cell_of(high: u8, low: u8) -> Cell
     requires { (is_hex_lem high ≡ true) × (is_hex_lem low ≡ true) }
     ensures { number_of result ≡ numbered high low }
 {
-    let (Some(high), Some(low)) = (digit(high), digit(low)) else {
-        unreachable()
-    };
-    match Cell::new(high as usize * 16 + low as usize) {
-        Some(cell) => cell,
-        None => unreachable(),
-    }
+    let high = digit(high).unwrap();
+    let low = digit(low).unwrap();
+    Cell::new(usize::from(high) * 16 + usize::from(low)).unwrap()
 }
 
 // Whether a byte may stand at a place of a definition.
