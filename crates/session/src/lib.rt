@@ -109,10 +109,8 @@ fn answer_lines<P: Printed, S: Store<P>>(
     // `cut_line` says in its contract what a line is; `split_inclusive` would leave the break in it
     while !rest.is_empty() {
         let (line, next) = cut_line(rest);
-        match answer_line(store, line, &mut buffer) {
-            Ok(len) => out.extend_from_slice(&buffer[..len])?,
-            Err(_) => unreachable(),
-        }
+        let len = answer_line(store, line, &mut buffer).unwrap();
+        out.extend_from_slice(&buffer[..len])?;
         rest = next;
     }
     Ok(())
@@ -147,10 +145,8 @@ fn print_outcome(out: &mut Vec<u8>, outcome: Result<(), Refusal>) -> Result<(), 
     ensures { OnOk result (out.new.items ≡ out.old.items ++ line_of_answer (told outcome)) }
 {
     let mut buffer = [0; ANSWER];
-    match write_outcome(&mut buffer, outcome) {
-        Ok(len) => out.extend_from_slice(&buffer[..len]),
-        Err(_) => unreachable(),
-    }
+    let len = write_outcome(&mut buffer, outcome).unwrap();
+    out.extend_from_slice(&buffer[..len])
 }
 
 // Answers the lines behind a first line that names the kind.
