@@ -102,6 +102,7 @@ fn read(text: &[u8]) -> Result<Fallback, u8>
             first: cell_of(*a, *b),
             second: cell_of(*c, *d),
         }),
+        // an `as` that narrows what the contract of `beginning` bounds; a `try_from` would only be unwrapped
         _ => Err(right as u8),
     }
 }
