@@ -26,10 +26,10 @@ pub fn write_refusal(buffer: &mut [u8], refusal: Refusal) -> Result<usize, Refus
     ensures left { buffer.new ≡ line_left (refusal_line (said refusal)) buffer.old }
     ensures short { length (refusal_line (said refusal)) ≤ 39 }
 {
-    let number = write_number(refusal.number() as u32);
+    let number = write_number(u32::from(refusal.number()));
     match refusal.place() {
         Some(place) => {
-            let place = write_number(place as u32);
+            let place = write_number(u32::from(place));
             write_line(
                 buffer,
                 &[b"no ", number.as_slice(), b" ", place.as_slice(), b"\n"],

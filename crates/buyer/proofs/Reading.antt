@@ -1,19 +1,25 @@
--- How far a text stands rightly: the turns of the loop that finds it, and what is known of its bytes then.
-use Rattle.std.proofs.Common.{◌≡◌, ℕ, zero, suc, ◌+◌, ◌<◌, ◌≤◌, Bool, true, false, cond, eqb, ltb, List, [], ◌∷◌, length, get_or, drop, refl, ap, ◌∙◌, arith, ltb-true, eqb-true}
+-- How far a text stands rightly: where the search for the first wrong byte ends, and what is known of the bytes then.
+use Rattle.std.proofs.Common.{◌≡◌, ℕ, zero, suc, ◌+◌, ◌<◌, ◌≤◌, Bool, true, false, cond, not, eqb, ltb, nat_lt, List, [], ◌∷◌, length, get_or, position, Option, Some, None, refl, ap, ◌∙◌, arith, ltb-true, eqb-true}
+use Rattle.std.specs.List.{enumerate_from, position_or_len}
+use Rattle.std.specs.Option.{unwrap_or}
 use borrow.Author.Tests.{both_ways}
-use Rattle.std.proofs.lemmas.List.{at_drop_more, at_drop_all}
+use Rattle.std.proofs.lemmas.Grind.{common_steps}
+use Rattle.std.proofs.lemmas.List.FromFn.{length-enumerate_from}
 use Rattle.std.proofs.lemmas.Bool.{cond-true, cond-false}
 use Rattle.buyer.specs.Fallback.{is_hex_lem, may_stand_lem, right_from}
 
-module _ (text : List ℕ) (i : ℕ) (so_far : right_from 0 text ≡ i + right_from i (drop i text)) where
-  pub right_stop : i < length text → may_stand_lem i (get_or text i 0) ≡ false → i ≡ right_from 0 text
-  right_stop l h =
-      let e = at_drop_more (λ r. right_from i r) text i 0 l in
-      let f = cond-false (may_stand_lem i (get_or text i 0)) (suc (right_from (suc i) (drop (i + 1) text))) 0 h in
-      omega arith
+-- whether the byte at a place may not stand there
+abbrev pub wrong : ℕ × ℕ → Bool
+wrong q = not (may_stand_lem q.0 q.1)
 
-  pub right_end : length text ≤ i → i ≡ right_from 0 text
-  right_end l = let e = at_drop_all (λ r. right_from i r) text i l in omega arith
+first_wrong : (place : ℕ) (text : List ℕ) → position_or_len wrong (enumerate_from place text) ≡ right_from place text
+first_wrong place [] = refl
+first_wrong place (b ∷ bs) = go (may_stand_lem place b) (first_wrong (place + 1) bs)
+  where
+    go : (t : Bool) → position_or_len wrong (enumerate_from (place + 1) bs) ≡ right_from (place + 1) bs
+        → cond (not (not t)) (1 + position_or_len wrong (enumerate_from (place + 1) bs)) 0 ≡ cond t (suc (right_from (suc place) bs)) 0
+    go true e = let s : place + 1 ≡ suc place = omega arith in let f = e ∙ ap (λ n. right_from n bs) s in omega arith
+    go false e = refl
 
 -- only at the places of a definition may a byte stand
 stands_within : (place b : ℕ) → may_stand_lem place b ≡ true → place < 5
@@ -68,3 +74,20 @@ right_fails place (b ∷ bs) k at a r l = go (may_stand_lem place b) refl k a r 
     go true e (suc k) a r l more = let f = cond-true (may_stand_lem place b) (suc (right_from (suc place) bs)) 0 e in more k (omega arith) (omega arith) (omega arith)
     go false e zero a r l more = let s : at ≡ place = omega arith in ap (λ (n : ℕ). may_stand_lem n b) s ∙ e
     go false e (suc k) a r l more = let f = cond-false (may_stand_lem place b) (suc (right_from (suc place) bs)) 0 e in absurd (omega arith)
+
+-- the place of the first byte that may not stand, or the end, is how many stand rightly
+pub right_found : (text : List ℕ) (found : Option ℕ) → found ≡ position wrong (enumerate_from 0 text) → unwrap_or found (length text) ≡ right_from 0 text
+right_found text found e = ap (λ f. unwrap_or f (length text)) e ∙ go (nat_lt (position_or_len wrong (enumerate_from 0 text)) (length (enumerate_from 0 text))) refl
+  where
+    first : position_or_len wrong (enumerate_from 0 text) ≡ right_from 0 text
+    first = first_wrong 0 text
+
+    go : (t : Bool) → nat_lt (position_or_len wrong (enumerate_from 0 text)) (length (enumerate_from 0 text)) ≡ t
+        → unwrap_or (cond t (Some (position_or_len wrong (enumerate_from 0 text))) None) (length text) ≡ right_from 0 text
+    go true h = first
+    go false h =
+        let n = length-enumerate_from {X = ℕ} 0 text in
+        let l = right_length 0 text in
+        let m : length (enumerate_from 0 text) ≤ position_or_len wrong (enumerate_from 0 text) = grind (arith, common_steps) in
+        let ends : length text ≡ right_from 0 text = omega (arith, first) in
+        ends

@@ -1,6 +1,7 @@
 // The language: `10|F0` is the value of the cell 10, or, where that is 0, the value of the cell F0; where both are 0,
 // nobody has set the panel, and that is a fault. A cell is written as its number, in two hexadecimal digits.
-ghost use Rattle.std.specs.Prelude.{◌≡◌, ℕ, ◌<◌, ◌≤◌, true, false, map, length, MatchOption, None as Nothing, slice_index_or};
+ghost use Rattle.std.specs.Prelude.{◌≡◌, ℕ, ◌<◌, ◌≤◌, true, false, map, length, MatchOption, None as Nothing, not, position, slice_index_or};
+ghost use Rattle.std.specs.List.{enumerate_from};
 ghost use Rattle.interfaces.specs.Cells.{number_of};
 ghost use Rattle.interfaces.specs.Tasks.{step_means, step_of};
 ghost use Rattle.whole.specs.Whole.{whole_blank, whole_canon};
@@ -16,7 +17,8 @@ use interfaces::step::{LanguageFault, Step};
 use interfaces::value::Value;
 use whole::Whole;
 
-/// The fault of a definition both of whose cells are 0.
+/// The fault of a definition both of whose cells are 0. It is this language's one fault, and a fault's `number` is a
+/// plain byte in every language, so an enum of one would name it twice.
 pub const UNSET: u8 = 40;
 
 // how many bytes a definition has
@@ -57,13 +59,9 @@ fn cell_of(high: u8, low: u8) -> Cell
     requires { (is_hex_lem high ≡ true) × (is_hex_lem low ≡ true) }
     ensures { number_of result ≡ numbered high low }
 {
-    let (Some(high), Some(low)) = (digit(high), digit(low)) else {
-        unreachable()
-    };
-    match Cell::new(high as usize * 16 + low as usize) {
-        Some(cell) => cell,
-        None => unreachable(),
-    }
+    let high = digit(high).unwrap();
+    let low = digit(low).unwrap();
+    Cell::new(usize::from(high) * 16 + usize::from(low)).unwrap()
 }
 
 // Whether a byte may stand at a place of a definition.
@@ -77,17 +75,21 @@ fn may_stand(place: usize, byte: u8) -> bool
     }
 }
 
+// The place of the first byte that may not stand there.
+fn first_wrong(text: &[u8]) -> Option<usize>
+    ensures { result ≡ position (λ q. not (may_stand_lem q.0 q.1)) (enumerate_from 0 text.now) }
+{
+    text.iter()
+        .enumerate()
+        .position(|(i, byte)| !may_stand(i, *byte))
+}
+
 // How many bytes, from the start on, stand where they may.
 fn beginning(text: &[u8]) -> usize
     ensures value { result ≡ right_from 0 text.now }
     ensures bound { result ≤ 5 }
 {
-    for (i, byte) in text.iter().enumerate() {
-        if !may_stand(i, *byte) {
-            return i;
-        }
-    }
-    text.len()
+    first_wrong(text).unwrap_or(text.len())
 }
 
 // Reads a definition, or finds the place where the text leaves the language.
@@ -100,6 +102,7 @@ fn read(text: &[u8]) -> Result<Fallback, u8>
             first: cell_of(*a, *b),
             second: cell_of(*c, *d),
         }),
+        // an `as` that narrows what the contract of `beginning` bounds; a `try_from` would only be unwrapped
         _ => Err(right as u8),
     }
 }

@@ -33,11 +33,11 @@ struct Desk<S, L, R> {
 }
 
 fn cell(number: u8) -> Cell {
-    Cell::new(number as usize).unwrap()
+    Cell::new(usize::from(number)).unwrap()
 }
 
 fn whole(number: i16) -> Whole {
-    Whole::new(number as i32).unwrap()
+    Whole::new(i32::from(number)).unwrap()
 }
 
 // `ok`, or the number of the refusal, and its place in the text if it has one. A function, as those below: refusals,

@@ -70,10 +70,7 @@ mod tests {
 
     // The value of either kind that is written as this number.
     fn value<P: Printed>(number: u32) -> Result<P, Fail> {
-        match P::read(write_number(number).as_slice()) {
-            Ok(value) => Ok(value),
-            Err(_) => Err(Fail::new("no value")),
-        }
+        P::read(write_number(number).as_slice()).map_err(|_| Fail::new("no value"))
     }
 
     // Whether a plan says what is wanted.
@@ -153,6 +150,8 @@ mod tests {
         perform_all(&rt, &mut rebuilder, 0, &[value::<Text>(5)?; 9])
     }
 
+    // The next four are not one function over the kind and the depth: tried, and it is then open that the rows of any
+    // depth fit in memory, which the check finds alone for the depths 1 and 4.
     #[test]
     fn verifying(rt: HostRuntime) -> Result<(), Fail> {
         let mut numbers = [value::<Whole>(99)?; TRACE];

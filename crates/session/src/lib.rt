@@ -60,6 +60,7 @@ fn write_outcome(buffer: &mut [u8], outcome: Result<(), Refusal>) -> Result<usiz
     ensures left { buffer.new ≡ line_left (line_of_answer (told outcome)) buffer.old }
     ensures short { length (line_of_answer (told outcome)) ≤ 39 }
 {
+    // both arms lend the buffer, which the two closures of a `map_or_else` cannot hold at once
     match outcome {
         Ok(()) => write_ok(buffer),
         Err(refusal) => write_refusal(buffer, refusal),
@@ -90,6 +91,7 @@ fn answer_line<P: Printed, S: Store<P>>(
     ensures answered { Wrote P.Printed.written P.Printed.unread (S.Store.locked store.old) (λ k. P.Value.canon (S.Store.shows store.old k)) line.now buffer.old (told result) buffer.new (λ k. P.Value.canon (S.Store.shows store.new k)) }
     ensures locks { (k : ℕ) → S.Store.locked store.new k ≡ S.Store.locked store.old k }
 {
+    // as in `write_outcome`, both arms lend the buffer
     match read_line(line) {
         Ok(found) => serve(store, found, buffer),
         Err(refusal) => write_refusal(buffer, refusal),
@@ -106,13 +108,11 @@ fn answer_lines<P: Printed, S: Store<P>>(
 {
     let mut buffer = [0; ANSWER];
     let mut rest = lines;
-    // `cut_line` says in its contract what a line is; `split_inclusive` would leave the break in it
+    // `open` cuts the first line by `cut_line` too; `split_inclusive` would leave the break in each line
     while !rest.is_empty() {
         let (line, next) = cut_line(rest);
-        match answer_line(store, line, &mut buffer) {
-            Ok(len) => out.extend_from_slice(&buffer[..len])?,
-            Err(_) => unreachable(),
-        }
+        let len = answer_line(store, line, &mut buffer).unwrap();
+        out.extend_from_slice(&buffer[..len])?;
         rest = next;
     }
     Ok(())
@@ -147,10 +147,8 @@ fn print_outcome(out: &mut Vec<u8>, outcome: Result<(), Refusal>) -> Result<(), 
     ensures { OnOk result (out.new.items ≡ out.old.items ++ line_of_answer (told outcome)) }
 {
     let mut buffer = [0; ANSWER];
-    match write_outcome(&mut buffer, outcome) {
-        Ok(len) => out.extend_from_slice(&buffer[..len]),
-        Err(_) => unreachable(),
-    }
+    let len = write_outcome(&mut buffer, outcome).unwrap();
+    out.extend_from_slice(&buffer[..len])
 }
 
 // Answers the lines behind a first line that names the kind.
