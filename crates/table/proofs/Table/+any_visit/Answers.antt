@@ -17,29 +17,29 @@ head cells = number_of (get_or cells 0 no_cell)
 abbrev rest : List Cell → List ℕ
 rest cells = map number_of (take (length cells - 1) (drop 1 cells))
 
-pub any-returns-then-visit : goal.any-returns-then-visit
-any-returns-then-visit t c =
+pub any-returns-then-visit-clause-told : goal.any-returns-then-visit-clause-told
+any-returns-then-visit-clause-told t c =
     let asked = asked_in (record_in c.args.self.now) in
     let cells = c.args.cells.now in
     let parts = first_and_rest cells no_cell c.in-len1-up.len_at_least in
     elim c.if-eq.branch [
-      | any-then-eq w ↦ rw (w.known-is, c.if-visit.true) (any_here asked (number_of c.args.c) c.args.fuel (rest cells) (head cells) c.args.known.now.reaches parts (eqb-true _ _ (sym w.if-eq.ensures)))
-      | any-else-eq w ↦ rw (w.known-is, c.if-visit.true) (any_below asked (number_of c.args.c) c.args.fuel (rest cells) (head cells) c.args.known.now.reaches w.visit.new.known.reaches parts (rw (sym w.value-is ∙ c.if-visit.true) at w.visit.ensures))
+      | any-then-eq w ↦ rw (w.known-is, c.if-visit.true) (any_here asked (number_of c.args.known.now.touched) c.args.fuel (rest cells) (head cells) c.args.known.now.reaches parts (eqb-true _ _ (sym w.if-eq.ensures) ∙ ap number_of c.touched.ensures))
+      | any-else-eq w ↦ rw (w.known-is, c.if-visit.true) (any_below asked (number_of c.args.known.now.touched) c.args.fuel (rest cells) (head cells) c.args.known.now.reaches w.visit.new.known.reaches parts (rw (sym w.value-is ∙ c.if-visit.true) at w.visit.ensures.told))
     ]
 
-pub any-returns-else-visit : goal.any-returns-else-visit
-any-returns-else-visit t c =
+pub any-returns-else-visit-clause-told : goal.any-returns-else-visit-clause-told
+any-returns-else-visit-clause-told t c =
     let asked = asked_in (record_in c.args.self.now) in
     let cells = c.args.cells.now in
     let parts = first_and_rest cells no_cell c.in-len1-up.len_at_least in
     elim c.if-eq.branch [
       | any-then-eq w ↦ absurd (cc)
-      | any-else-eq w ↦ any_on asked (number_of c.args.c) c.args.fuel (rest cells) (head cells) c.args.known.now.reaches w.visit.new.known.reaches c.any.new.known.reaches c.any.result
-          parts (eqb-false _ _ (sym w.if-eq.ensures)) (rw (sym w.value-is ∙ c.if-visit.false) at w.visit.ensures) (rw w.known-is at c.any.ensures)
+      | any-else-eq w ↦ any_on asked (number_of c.args.known.now.touched) c.args.fuel (rest cells) (head cells) c.args.known.now.reaches w.visit.new.known.reaches c.any.new.known.reaches c.any.result
+          parts (λ e. eqb-false _ _ (sym w.if-eq.ensures) (e ∙ ap number_of (sym c.touched.ensures))) (rw (sym w.value-is ∙ c.if-visit.false) at w.visit.ensures.told) (rw (w.known-is, w.visit.ensures.same) at c.any.ensures.told)
     ]
 
-pub visit-returns : goal.visit-returns
-visit-returns t c =
+pub visit-returns-clause-told : goal.visit-returns-clause-told
+visit-returns-clause-told t c =
     let asked = asked_in (record_in c.args.self.now) in
-    rw c.set.ensures (visit_found asked (number_of c.args.c) c.args.fuel (c.args.fuel - 1) (number_of c.args.x) (map number_of c.as_slice.result.now) c.args.known.now.reaches c.any-found.new.known.reaches c.any-found.result
-    (omega (arith, c.if-fuel-eq0.false)) (ap (map number_of) c.as_slice.ensures.cells ∙ ap (λ r. asked_in (λ _. r) 0) c.get-row.ensures.row) c.any-found.ensures (omega arith))
+    rw c.set.ensures.kept (visit_found asked (number_of c.args.known.now.touched) c.args.fuel (c.args.fuel - 1) (number_of c.args.x) (map number_of c.as_slice.result.now) c.args.known.now.reaches c.any-found.new.known.reaches c.any-found.result
+    (omega (arith, c.if-fuel-eq0.false)) (ap (map number_of) c.as_slice.ensures.cells ∙ ap (λ r. asked_in (λ _. r) 0) c.get-row.ensures.row) c.any-found.ensures.told (omega arith))

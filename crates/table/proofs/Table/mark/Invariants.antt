@@ -1,3 +1,4 @@
+use Rattle.std.proofs.Common.{◌≡◌}
 use Rattle.table.specs.Records.{record_in, marked_in, cause_in, asked_in}
 use Rattle.table.specs.Marks.{Grounded}
 use Rattle.table.proofs.Marking.{Sofar}
@@ -5,5 +6,6 @@ use Rattle.table.proofs.Table.mark.Given as goal
 
 abbrev pub invariant-loop-i : goal.invariant-loop-i
 invariant-loop-i l =
-    Grounded (marked_in (record_in l.initial.self)) (cause_in (record_in l.initial.self)) (asked_in (record_in l.initial.self))
-    → Sofar l.touched l.i (record_in l.initial.self) (record_in l.self) l.known.reaches
+    (l.known.touched ≡ l.fn.touched)
+    × (Grounded (marked_in (record_in l.initial.self)) (cause_in (record_in l.initial.self)) (asked_in (record_in l.initial.self))
+    → Sofar l.fn.touched l.i (record_in l.initial.self) (record_in l.self) l.known.reaches)
