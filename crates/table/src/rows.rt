@@ -62,8 +62,8 @@ impl Table {
         self.records[place] = row;
     }
 
-    // Whether the cell `x` reaches the touched one by asked cells. What is found out is remembered, so that each record is opened
-    // once; a way down has no more steps than there are cells, and `fuel` counts them.
+    // Whether the cell `x` reaches the touched one by asked cells. What is found out is remembered, so that each record
+    // is opened once; a way down has no more steps than there are cells, and `fuel` counts them.
     #[cycle(any_visit)]
     fn visit(&self, x: Cell, fuel: usize, known: &mut Known) -> bool
         ensures same { known.new.touched ≡ known.old.touched }
@@ -87,12 +87,12 @@ impl Table {
         ensures same { known.new.touched ≡ known.old.touched }
         ensures told { VisitsAny (asked_in (record_in self.now)) (number_of known.old.touched) fuel (map number_of cells.now) known.old.reaches known.new.reaches result }
     {
-        match cells {
-            [] => false,
-            [y, rest @ ..] => {
-                *y == known.touched() || self.visit(*y, fuel, known) || self.any(rest, fuel, known)
+        for y in cells {
+            if *y == known.touched() || self.visit(*y, fuel, known) {
+                return true;
             }
         }
+        false
     }
 
     // Puts the cell `x` in doubt if it is not yet and reaches the touched one.
