@@ -113,11 +113,8 @@ impl Table {
         ensures { Grounded (marked_in (record_in self.old)) (cause_in (record_in self.old)) (asked_in (record_in self.old)) → Marks (number_of touched) (record_in self.old) (record_in self.new) }
     {
         let mut known = Known::new(touched);
-        // by number: a chain of `filter_map(Cell::new)` would still have to be shown to leave no cell out
-        for i in 0..CELLS {
-            if let Some(cell) = Cell::new(i) {
-                self.mark_one(cell, &mut known);
-            }
+        for cell in (0..CELLS).filter_map(Cell::new) {
+            self.mark_one(cell, &mut known);
         }
     }
 }
