@@ -1,11 +1,13 @@
 -- The turns of all cells make a marking. Assumes nothing.
-use Rattle.std.proofs.Common.{◌≡◌, ℕ, zero, suc, ◌+◌, ◌<◌, ◌≤◌, Bool, true, false, List, length, get_or, replicate, Some, None, Option as Maybe, sym, refl, ap, ◌∙◌, subst, arith}
+use Rattle.std.proofs.Common.{◌≡◌, ℕ, zero, suc, ◌+◌, ◌<◌, ◌≤◌, Bool, true, false, List, ◌∷◌, map, length, get_or, replicate, Some, None, Option as Maybe, sym, refl, ap, ◌∙◌, subst, arith}
 use mathlib.Core.Path.{fun_ext}
 use mathlib.Core.Option.{none}
 use native.Mathlib.Decide.{ℕ_discrete, dec_lt}
 use Rattle.std.specs.Option.{option_map}
 use Rattle.std.proofs.lemmas.Bool.{eq-eqb, ne_eqb, lt-ltb}
+use Rattle.std.specs.List.{filter_map, range_with_len}
 use Rattle.std.proofs.lemmas.List.{get_or_past}
+use Rattle.std.proofs.lemmas.List.FromFn.{length-map-range_with_len, get_or-map-range_with_len}
 use Rattle.interfaces.specs.declared.cell.Cell.{Cell}
 use Rattle.interfaces.specs.Cells.{cell_count, cell_numbered, number_of, but}
 use Rattle.interfaces.proofs.Tables.{everywhere}
@@ -116,10 +118,26 @@ all_turned c i rows d after known h f s = record { same_marks = s.same_marks; sa
     go k (no n) = stays (λ m _ _. let q : get_or rows k d ≡ d = get_or_past rows k d (omega arith) in let m' : d.defined ≡ true = ap (λ r. r.defined) (sym q) ∙ m in cc)
         (ap (λ r. number_in r.cause) (s.todo k (omega arith)))
 
--- the cell that was made of a number has that number
-pub made : (o : Maybe Cell) (c : Cell) (n : ℕ) → o ≡ Some c → option_map number_of o ≡ cell_numbered n → n < cell_count → number_of c ≡ n
-made o c n e m h = let q : cell_numbered n ≡ Some n = rw (lt-ltb n cell_count h) refl in let k : option_map number_of o ≡ Some (number_of c) = ap (option_map number_of) e in cc
+abbrev cell_of : ℕ → Cell
+cell_of n = record { 0 = n }
 
-pub not_made : (o : Maybe Cell) (n : ℕ) → option_map number_of o ≡ cell_numbered n → n < cell_count → ((c : Cell) → ¬ (o ≡ Some c)) → ⊥
-not_made None n m h f = let q : cell_numbered n ≡ Some n = rw (lt-ltb n cell_count h) refl in cc
-not_made (Some c) n m h f = f c refl
+-- the cell of a number, if there is one
+pub cell_made : ℕ → Maybe Cell
+cell_made n = option_map cell_of (cell_numbered n)
+
+pub made : (o : Maybe Cell) (n : ℕ) → option_map number_of o ≡ cell_numbered n → o ≡ cell_made n
+unfolding cell_made
+made None n e = ap (option_map cell_of) e
+made (Some c) n e = ap (option_map cell_of) e
+
+-- the cells of all numbers leave none out, and stand in the order of their numbers
+made_from : (a n : ℕ) → a + n ≤ cell_count → filter_map cell_made (range_with_len a n) ≡ map cell_of (range_with_len a n)
+unfolding cell_made
+made_from a zero h = refl
+made_from a (suc n) h = rw (lt-ltb a cell_count (omega (arith, h))) (ap (λ z. cell_of a ∷ z) (made_from (a + 1) n (omega (arith, h))))
+
+pub length-made : (n : ℕ) → n ≤ cell_count → length (filter_map cell_made (range_with_len 0 n)) ≡ n
+length-made n h = ap length (made_from 0 n (omega (arith, h))) ∙ length-map-range_with_len cell_of 0 n
+
+pub number_at : (n k : ℕ) (c : Cell) → n ≤ cell_count → k < length (filter_map cell_made (range_with_len 0 n)) → c ≡ get_or (filter_map cell_made (range_with_len 0 n)) k c → number_of c ≡ k
+number_at n k c m h e = ap number_of (e ∙ ap (λ z. get_or z k c) (made_from 0 n (omega (arith, m))) ∙ get_or-map-range_with_len cell_of 0 n k k c (rw (length-made n m) at h) (omega arith))

@@ -1,16 +1,8 @@
 -- The walk down the asked cells finds out which cells reach `c`. Assumes nothing.
-use Rattle.std.proofs.Common.{◌≡◌, ℕ, suc, ◌-◌, ◌<◌, ◌≤◌, Bool, true, false, List, [], ◌∷◌, map, length, get_or, take, drop, set, Some, None, Option as Maybe, sym, refl, ap, ◌∙◌, subst, arith, get_or-set_other, get_or-set_same}
+use Rattle.std.proofs.Common.{◌≡◌, ℕ, suc, ◌<◌, Bool, true, false, List, [], ◌∷◌, length, get_or, set, Some, None, Option as Maybe, sym, refl, ap, ◌∙◌, subst, arith, get_or-set_other, get_or-set_same}
 use native.Mathlib.Decide.{ℕ_discrete}
-use Rattle.std.proofs.lemmas.List.{take_rest}
-use Rattle.interfaces.specs.declared.cell.Cell.{Cell}
-use Rattle.interfaces.specs.Cells.{number_of}
 use Rattle.table.specs.Marks.{Among, first, later, Leads, near, far, Shallow, shallow}
 use Rattle.table.specs.Walks.{Tells, Knows, Visits, Any, itself, below, VisitsAny}
-
--- the first of some cells, and the others
-pub first_and_rest : (xs : List Cell) (d : Cell) → 1 ≤ length xs → map number_of xs ≡ number_of (get_or xs 0 d) ∷ map number_of (take (length xs - 1) (drop 1 xs))
-first_and_rest [] d h = absurd (omega arith)
-first_and_rest (x ∷ xs) d h = ap (λ z. number_of x ∷ map number_of z) (sym (take_rest (x ∷ xs) 1))
 
 module _ (asked : ℕ → List ℕ) (c : ℕ) where
   pub any_none : (n : ℕ) {ys : List ℕ} (known : List (Maybe Bool)) → ys ≡ [] → VisitsAny asked c n ys known known false

@@ -62,11 +62,12 @@ impl Table {
         self.records[place] = row;
     }
 
-    // Whether the cell `x` reaches `c` by asked cells. What is found out is remembered, so that each record is opened
-    // once; a way down has no more steps than there are cells, and `fuel` counts them.
+    // Whether the cell `x` reaches the touched one by asked cells. What is found out is remembered, so that each record
+    // is opened once; a way down has no more steps than there are cells, and `fuel` counts them.
     #[cycle(any_visit)]
-    fn visit(&self, x: Cell, c: Cell, fuel: usize, known: &mut Known) -> bool
-        ensures { Visits (asked_in (record_in self.now)) (number_of c) fuel (number_of x) known.old.reaches known.new.reaches result }
+    fn visit(&self, x: Cell, fuel: usize, known: &mut Known) -> bool
+        ensures same { known.new.touched ≡ known.old.touched }
+        ensures told { Visits (asked_in (record_in self.now)) (number_of known.old.touched) fuel (number_of x) known.old.reaches known.new.reaches result }
     {
         if let Some(answer) = known.get(x) {
             return answer;
@@ -75,31 +76,33 @@ impl Table {
             return false;
         }
         let row = self.get(x);
-        let found = self.any(row.asked.as_slice(), c, fuel - 1, known);
+        let found = self.any(row.asked.as_slice(), fuel - 1, known);
         known.set(x, found);
         found
     }
 
-    // Whether one of these cells is `c` or reaches it.
+    // Whether one of these cells is the touched one or reaches it.
     #[cycle(any_visit)]
-    fn any(&self, cells: &[Cell], c: Cell, fuel: usize, known: &mut Known) -> bool
-        ensures { VisitsAny (asked_in (record_in self.now)) (number_of c) fuel (map number_of cells.now) known.old.reaches known.new.reaches result }
+    fn any(&self, cells: &[Cell], fuel: usize, known: &mut Known) -> bool
+        ensures same { known.new.touched ≡ known.old.touched }
+        ensures told { VisitsAny (asked_in (record_in self.now)) (number_of known.old.touched) fuel (map number_of cells.now) known.old.reaches known.new.reaches result }
     {
-        match cells {
-            [] => false,
-            [y, rest @ ..] => {
-                *y == c || self.visit(*y, c, fuel, known) || self.any(rest, c, fuel, known)
+        for y in cells {
+            if *y == known.touched() || self.visit(*y, fuel, known) {
+                return true;
             }
         }
+        false
     }
 
-    // Puts the cell `x` in doubt if it is not yet and reaches `c`.
-    fn mark_one(&mut self, x: Cell, c: Cell, known: &mut Known)
-        ensures { Turns c (number_of x) (record_in self.old) (record_in self.new) known.old.reaches known.new.reaches }
+    // Puts the cell `x` in doubt if it is not yet and reaches the touched one.
+    fn mark_one(&mut self, x: Cell, known: &mut Known)
+        ensures same { known.new.touched ≡ known.old.touched }
+        ensures turn { Turns known.old.touched (number_of x) (record_in self.old) (record_in self.new) known.old.reaches known.new.reaches }
     {
         let mut row = self.get(x);
-        if is_calm(row) && self.visit(x, c, CELLS + 1, known) {
-            row.cause = Some(c);
+        if is_calm(row) && self.visit(x, CELLS + 1, known) {
+            row.cause = Some(known.touched());
             self.change(x, row);
         }
     }
@@ -109,12 +112,9 @@ impl Table {
     pub fn mark(&mut self, touched: Cell)
         ensures { Grounded (marked_in (record_in self.old)) (cause_in (record_in self.old)) (asked_in (record_in self.old)) → Marks (number_of touched) (record_in self.old) (record_in self.new) }
     {
-        let mut known = Known::new();
-        // by number: a chain of `filter_map(Cell::new)` would still have to be shown to leave no cell out
-        for i in 0..CELLS {
-            if let Some(cell) = Cell::new(i) {
-                self.mark_one(cell, touched, &mut known);
-            }
+        let mut known = Known::new(touched);
+        for cell in (0..CELLS).filter_map(Cell::new) {
+            self.mark_one(cell, &mut known);
         }
     }
 }

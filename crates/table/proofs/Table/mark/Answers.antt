@@ -1,18 +1,28 @@
-use Rattle.std.proofs.Common.{refl, arith}
+use Rattle.std.proofs.Common.{refl, length, ◌∙◌, arith}
+use Rattle.std.proofs.lemmas.Iterator.{YieldsList-from_range}
+use Rattle.std.proofs.lemmas.Iterator.Consumers.{YieldsList-at, YieldsList-from_filter_map, YieldsList-turn, YieldsList-end}
+use Rattle.std.proofs.lemmas.List.{length_push}
 use Rattle.table.specs.Records.{record_in}
-use Rattle.table.proofs.Marking.{begins, one_turn, all_turned, made, not_made}
+use Rattle.table.proofs.Marking.{begins, one_turn, all_turned, cell_made, made, length-made, number_at}
 use Rattle.table.proofs.Table.mark.Goals as goal
-use Rattle.table.proofs.Table.mark.Goals.{in-Some, in_default}
 
-pub loop-i-init : goal.loop-i-init
-loop-i-init c = λ _. rw c.new-known.ensures (begins c.args.touched (record_in c.args.self.now) 256)
+pub loop-cell-init : goal.loop-cell-init
+loop-cell-init c = (c.new-known.ensures.of, λ _. rw c.new-known.ensures.nothing (begins c.args.touched (record_in c.args.self.now) 256))
 
-pub loop-i-preserved : goal.loop-i-preserved
-loop-i-preserved c = λ g. elim c.match-new.branch [
-  | in-Some w ↦ rw (w.self-is, w.known-is) (one_turn c.args.touched c.loop-i.i (record_in c.args.self.now) (record_in c.loop-i.self) (record_in w.mark_one.new.self) c.loop-i.known.reaches w.mark_one.new.known.reaches g (c.loop-i.invariant g)
-      (rw (made c.new.result w.in-Some.cell c.loop-i.i w.in-Some.is c.new.ensures (omega arith)) at w.mark_one.ensures))
-  | in_default w ↦ absurd (not_made c.new.result c.loop-i.i c.new.ensures (omega arith) w.in_default.not-Some)
-]
+pub loop-cell-preserved : goal.loop-cell-preserved
+loop-cell-preserved c =
+    let road = YieldsList-at c.into_iter-cell-iterator.ensures.into_iter_gives (YieldsList-from_filter_map _ cell_made (YieldsList-from_range 0 256 256 (cc) refl) c.filter_map-cell-items.ensures.closure (λ x r q k. (refl, made r x k.met))) in
+    let t = YieldsList-turn road c.loop-cell.yielded _ c.loop-cell.yielded_by _ _ c.in-Some.cell c.in-Some.is c.next.ensures.steps in
+    let same = c.loop-cell.invariant.0 in (
+      c.mark_one.ensures.same ∙ same,
+      λ g. rw (length_push c.loop-cell.yielded c.in-Some.cell)
+          (one_turn c.args.touched (length c.loop-cell.yielded) (record_in c.args.self.now) (record_in c.loop-cell.self) (record_in c.mark_one.new.self) c.loop-cell.known.reaches c.mark_one.new.known.reaches g (c.loop-cell.invariant.1 g)
+          (rw (same, number_at 256 _ _ (omega arith) t.0 t.1) at c.mark_one.ensures.turn)),
+    )
 
 pub returns : goal.returns
-returns c = λ g. all_turned c.args.touched c.loop-i.i c.args.self.now.records _ (record_in c.loop-i.self) c.loop-i.known.reaches (omega (arith, c.args.self.now.whole)) refl (c.loop-i.invariant g)
+returns c =
+    let road = YieldsList-at c.into_iter-cell-iterator.ensures.into_iter_gives (YieldsList-from_filter_map _ cell_made (YieldsList-from_range 0 256 256 (cc) refl) c.filter_map-cell-items.ensures.closure (λ x r q k. (refl, made r x k.met))) in
+    let t = YieldsList-end road c.loop-cell.yielded _ c.loop-cell.yielded_by _ _ c.in-None.is c.next.ensures.steps in
+    let l = t.1 ∙ length-made 256 (omega arith) in
+    λ g. all_turned c.args.touched (length c.loop-cell.yielded) c.args.self.now.records _ (record_in c.loop-cell.self) c.loop-cell.known.reaches (omega (arith, c.args.self.now.whole, l)) refl (c.loop-cell.invariant.1 g)
