@@ -1,5 +1,5 @@
 -- How writes to the parts change what the workbook shows.
-use Rattle.std.proofs.Common.{◌≡◌, ℕ, Bool, true, false, cond, eqb, leb, List, [], ◌∷◌, map, length, take, None, Ok, Err, sym, refl, ap, ◌∙◌, subst}
+use Rattle.std.proofs.Common.{◌≡◌, ℕ, Bool, true, false, cond, eqb, leb, List, [], ◌∷◌, map, length, take, None, Ok, Err, sym, refl, ap, ◌∙◌}
 use mathlib.Core.Option.{Option}
 use native.Mathlib.Decide.{ℕ_discrete}
 use Rattle.std.proofs.lemmas.List.{take-map}
@@ -101,20 +101,12 @@ module _ {V : Type 0} (canon : V → V) (steady : (x : V) → canon (canon x) �
       ∙ sym (but_changed x (take depth (t ∷ map (plain_trace canon) (traces x))) (λ y. map (plain_trace canon) (traces y)) k)
 
   -- a recording, and then a value
-  pub concludes_run : (depth : ℕ) (shows : ℕ → V) (locked : ℕ → Bool) (means : ℕ → Option (Def V)) (traces traces' : ℕ → List (Trace V)) (rows : ℕ → Record) (w₁ w' : View V) (x : ℕ) (running : Bool) (cs cs' : List Cell) (vs vs' : List V) (v : V)
-      → running ≡ true → w₁ ≡ seen canon shows locked means traces' rows → cs' ≡ cs → vs' ≡ vs → ((k : ℕ) → traces' k ≡ after_recording depth (recording canon cs' vs' v) x traces k)
-      → Closes w₁ w' x (canon v) (map number_of cs) → Concludes canon depth (seen canon shows locked means traces rows) w' x running cs vs v
-  concludes_run depth shows locked means traces traces' rows w₁ w' x running cs cs' vs vs' v r e c d tr cl =
-      let z = subst (λ u. Closes u w' x (canon v) (map number_of cs)) e cl in
+  pub concludes : (depth : ℕ) (shows : ℕ → V) (locked : ℕ → Bool) (means : ℕ → Option (Def V)) (traces traces' : ℕ → List (Trace V)) (rows : ℕ → Record) (w' : View V) (x : ℕ) (cs cs' : List Cell) (vs vs' : List V) (v : V)
+      → cs' ≡ cs → vs' ≡ vs → ((k : ℕ) → traces' k ≡ after_recording depth (recording canon cs' vs' v) x traces k)
+      → Closes (seen canon shows locked means traces' rows) w' x (canon v) (map number_of cs) → Concludes canon depth (seen canon shows locked means traces rows) w' x cs vs v
+  concludes depth shows locked means traces traces' rows w' x cs cs' vs vs' v c d tr z =
       record {
         ended = let y = z.ended in record { stored_is = y.stored_is; locked_is = y.locked_is; defs_is = y.defs_is; marked_is = y.marked_is; cause_is = y.cause_is; asked_is = y.asked_is };
         traces = λ k. z.traces k ∙ ap (map (plain_trace canon)) (tr k ∙ ap (λ u. after_recording depth (recording canon u vs' v) x traces k) c ∙ ap (λ u. after_recording depth (recording canon cs u v) x traces k) d)
-            ∙ recorded (eqb (length cs) (length vs)) (leb (length cs) ask_limit) depth traces x cs vs v k ∙ ap (λ b. cond b (after_recording depth (recording canon cs vs v) x (λ y. map (plain_trace canon) (traces y)) k) (map (plain_trace canon) (traces k))) (sym r);
+            ∙ recorded (eqb (length cs) (length vs)) (leb (length cs) ask_limit) depth traces x cs vs v k;
       }
-
-  -- a value without one
-  pub concludes_kept : (depth : ℕ) (w w₁ w' : View V) (x : ℕ) (running : Bool) (cs : List Cell) (vs : List V) (v : V) → running ≡ false → w₁ ≡ w → Closes w₁ w' x (canon v) (map number_of cs)
-      → Concludes canon depth w w' x running cs vs v
-  concludes_kept depth w w₁ w' x running cs vs v r e cl =
-      let z = subst (λ u. Closes u w' x (canon v) (map number_of cs)) e cl in
-      record { ended = z.ended; traces = λ k. z.traces k ∙ ap (λ b. cond b (after_recording depth (recording canon cs vs v) x w.traces k) (w.traces k)) (sym r) }

@@ -14,25 +14,26 @@ use Rattle.moves.specs.declared.answer.Located.{Located}
 use Rattle.moves.specs.declared.answer.Ran.{Ran}
 use Rattle.moves.specs.declared.report.Report.{Report}
 use Rattle.moves.specs.declared.turns.Turn.{Turn}
-use Rattle.moves.specs.declared.turns.Turn.TheVariants.{Done, Begin, Ask}
+use Rattle.moves.specs.declared.turns.Turn.TheVariants.{Keep, Begin, Give, Ask}
 
--- what a cell in doubt does next: it has a value, begins its run, asks for a cell, or faults
+-- what a cell in doubt does next: it keeps a result, begins its run, has a value from it, asks for a cell, or faults
 pub data Move (V : Type 0) : Type 0 where
-  ends : V → Move V
+  retains : V → Move V
   begins : Move V
+  yields : V → Move V
   wants : ℕ → Move V
   fails : Fault → Move V
 
 -- so its plan says, while it does not run
 abbrev pub plan_move : {V : Type 0} → Planned V → Move V
 plan_move runs = begins
-plan_move (keeps v) = ends v
+plan_move (keeps v) = retains v
 plan_move (next a) = wants a
 
 -- and so its step says, while it runs; a fault is located at the cell, with the length of the chain
 abbrev pub step_move : {V : Type 0} → Cell → (chain : ℕ) → Act V → Move V
 step_move cell chain (asks a) = wants a
-step_move cell chain (gives v) = ends v
+step_move cell chain (gives v) = yields v
 step_move cell chain (faults n m) = fails (record { number = n; mark = m; cell = cell; layer = Language; chain = chain })
 
 abbrev pub move_of : {V : Type 0} → Cell → (chain : ℕ) → (running : Bool) → Planned V → Act V → Move V
@@ -41,8 +42,9 @@ move_of cell chain false plan step = plan_move plan
 
 -- what an answered turn means; `canon` gives a value's normal form
 abbrev pub turn_means : {V : Type 0} → (V → V) → Result (Turn V) Fault → Move V
-turn_means canon (Ok (Done v)) = ends (canon v)
+turn_means canon (Ok (Keep v)) = retains (canon v)
 turn_means canon (Ok Begin) = begins
+turn_means canon (Ok (Give v)) = yields (canon v)
 turn_means canon (Ok (Ask a)) = wants (number_of a)
 turn_means canon (Err f) = fails f
 
@@ -93,17 +95,12 @@ abbrev pub run_of : Cell → Maybe Cell → Maybe Ran
 run_of cell None = None
 run_of cell (Some y) = Some (record { cell = cell; cause = y })
 
--- it is reported only if the cell ran
-abbrev pub reported : (running : Bool) → Cell → Maybe Cell → Maybe Ran
-reported true cell cause = run_of cell cause
-reported false cell cause = None
-
 -- the cell `x` got the value `v`, unless it is locked, and its doubt ended with these asked cells; traces are as they were
 pub record Closes {V : Type 0} (w w' : View V) (x : ℕ) (v : V) (cs : List ℕ) : Type 0 where
   pub ended : Ended w w' x (cond (w.locked x) (w.stored x) v) cs
   pub traces : (k : ℕ) → w'.traces k ≡ w.traces k
 
--- so it is after a run too, whose trace of asked cells and answers is recorded
-pub record Concludes {V : Type 0} (canon : V → V) (depth : ℕ) (w w' : View V) (x : ℕ) (running : Bool) (cs : List Cell) (vs : List V) (v : V) : Type 0 where
+-- so it is after a run, whose trace of asked cells and answers is recorded too
+pub record Concludes {V : Type 0} (canon : V → V) (depth : ℕ) (w w' : View V) (x : ℕ) (cs : List Cell) (vs : List V) (v : V) : Type 0 where
   pub ended : Ended w w' x (cond (w.locked x) (w.stored x) (canon v)) (map number_of cs)
-  pub traces : (k : ℕ) → w'.traces k ≡ cond running (after_recording depth (recording canon cs vs v) x w.traces k) (w.traces k)
+  pub traces : (k : ℕ) → w'.traces k ≡ after_recording depth (recording canon cs vs v) x w.traces k

@@ -14,13 +14,13 @@ use interfaces::cell::ASKS;
 use interfaces::{Asked, Cell, Store, Value};
 use table::Table;
 
-/// What is wrong with an ask.
+/// What is wrong with an ask, with the number of its fault.
 #[derive(Clone, Copy, PartialEq, Eq)]
 pub enum AskFault {
     /// It is for a cell in doubt that is being worked out.
-    Circle,
+    Circle = 16,
     /// It is one more than a task may make.
-    NinthAsk,
+    NinthAsk = 17,
 }
 
 impl AskFault {
@@ -28,10 +28,7 @@ impl AskFault {
     pub fn number(self) -> u8
         ensures { result ≡ fault_number self }
     {
-        match self {
-            AskFault::Circle => 16,
-            AskFault::NinthAsk => 17,
-        }
+        self as u8
     }
 
     /// The fault of a cell that asked for another, with a chain of this length.

@@ -4,7 +4,7 @@ ghost use Rattle.interfaces.specs.Asks.{asked_cells};
 ghost use Rattle.interfaces.specs.Cells.{number_of};
 ghost use Rattle.table.specs.Records.{record_in};
 ghost use Rattle.parts.specs.Shown.{shown};
-ghost use Rattle.moves.specs.Moves.{run_of, reported, Closes, Concludes, Joins};
+ghost use Rattle.moves.specs.Moves.{run_of, Closes, Concludes, Joins};
 
 use crate::answer::Ran;
 use crate::lists::front;
@@ -46,29 +46,26 @@ pub fn report_run(table: &Table, cell: Cell, report: &mut Report<'_>)
     }
 }
 
-/// A cell in doubt has its value. After a run the trace is recorded, and the run joins the report; then the value is
-/// written and the doubt ends. The asked cells and as many values of the working list make the trace.
+/// A run has given its value: its trace is recorded, it joins the report, the value is written, and the doubt ends. The
+/// asked cells and as many values of the working list make the trace.
 pub fn conclude<V: Value, S: Store<V>, L: Language<V>, R: Rebuilder<V>>(
     parts: &mut Parts<S, L, R>,
     cell: Cell,
     value: V,
     asked: Asked,
-    running: bool,
     report: &mut Report<'_>,
     work: &[V],
 )
     ensures concludes { Concludes V.Value.canon R.Rebuilder.depth
         (shown V.Value S.Store L.Language R.Rebuilder parts.old)
         (shown V.Value S.Store L.Language R.Rebuilder parts.new)
-        (number_of cell) running (asked_cells asked) (take (length (asked_cells asked)) work.now) value }
-    ensures report { Joins (reported running cell (record_in parts.old.table (number_of cell)).cause) report.old report.new }
+        (number_of cell) (asked_cells asked) (take (length (asked_cells asked)) work.now) value }
+    ensures report { Joins (run_of cell (record_in parts.old.table (number_of cell)).cause) report.old report.new }
 {
-    if running {
-        let answers = front(work, asked.len());
-        let _ = parts
-            .rebuilder
-            .record(cell, asked.as_slice(), answers, value);
-        report_run(&parts.table, cell, report);
-    }
+    let answers = front(work, asked.len());
+    let _ = parts
+        .rebuilder
+        .record(cell, asked.as_slice(), answers, value);
+    report_run(&parts.table, cell, report);
     end_doubt(parts, cell, value, asked);
 }

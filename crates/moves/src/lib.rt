@@ -13,7 +13,7 @@ pub mod turns;
 
 pub use answer::{Fault, Layer, Ran};
 pub use asks::{AskFault, check_ask, in_doubt, read_stored};
-pub use ends::conclude;
+pub use ends::{conclude, end_doubt};
 pub use path::Path;
 pub use report::Report;
 pub use turns::{Turn, next_turn};

@@ -13,10 +13,12 @@ use parts::Parts;
 
 /// What a cell in doubt does next.
 pub enum Turn<V> {
-    /// It has a value: it keeps one, or its run gives one.
-    Done(V),
+    /// It keeps a result.
+    Keep(V),
     /// Its run begins, with no answers.
     Begin,
+    /// Its run has given a value.
+    Give(V),
     /// It asks for a cell.
     Ask(Cell),
 }
@@ -32,13 +34,13 @@ fn run_step<V: Value, L: Language<V>>(
 {
     match language.step(cell, answers) {
         Step::Ask(asked) => Ok(Turn::Ask(asked)),
-        Step::Give(value) => Ok(Turn::Done(value)),
+        Step::Give(value) => Ok(Turn::Give(value)),
         Step::Fault(fault) => Err(Located { fault, cell, chain }),
     }
 }
 
 /// The next turn of a cell in doubt after these asked cells and their answers, which stand in front of the working
-/// list: by its step if it runs, else by the plan.
+/// list: by its step if it runs, else by the plan. No value goes with `running`, so an enum would be no plainer.
 pub fn next_turn<V: Value, S: Store<V>, L: Language<V>, R: Rebuilder<V>>(
     parts: &Parts<S, L, R>,
     cell: Cell,
@@ -56,7 +58,7 @@ pub fn next_turn<V: Value, S: Store<V>, L: Language<V>, R: Rebuilder<V>>(
         return Ok(run_step(&parts.language, cell, chain, answers)?);
     }
     match parts.rebuilder.plan(cell, asked.as_slice(), answers) {
-        Plan::Keep(value) => Ok(Turn::Done(value)),
+        Plan::Keep(value) => Ok(Turn::Keep(value)),
         Plan::Next(wanted) => Ok(Turn::Ask(wanted)),
         Plan::Run => Ok(Turn::Begin),
     }

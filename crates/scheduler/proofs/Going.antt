@@ -8,7 +8,7 @@ use Rattle.interfaces.specs.declared.cell.Cell.{Cell}
 use Rattle.interfaces.specs.Asks.{asked_cells}
 use Rattle.interfaces.specs.Cells.{ask_limit, number_of}
 use Rattle.interfaces.specs.Tasks.{Act, step_of}
-use Rattle.interfaces.specs.Traces.{Pair, Trace, runs, plan_for, pairs_of}
+use Rattle.interfaces.specs.Traces.{Pair, Trace, runs, keeps, plan_for, pairs_of}
 use Rattle.past.specs.Afresh.{In, Outcome, engine, language, fault, gave}
 use Rattle.view.specs.View.{View}
 use Rattle.midway.specs.Planning.{Plans, plain_trace}
@@ -17,12 +17,12 @@ use Rattle.moves.specs.declared.answer.Fault.{Fault}
 use Rattle.moves.specs.declared.answer.Ran.{Ran}
 use Rattle.moves.specs.declared.report.Report.{Report}
 use Rattle.moves.specs.declared.turns.Turn.{Turn}
-use Rattle.moves.specs.declared.turns.Turn.TheVariants.{Done, Begin, Ask}
-use Rattle.moves.specs.Moves.{turn_means, move_of, fault_number, AskChecked, Concludes, Joins, reported}
+use Rattle.moves.specs.declared.turns.Turn.TheVariants.{Keep, Begin, Give, Ask}
+use Rattle.moves.specs.Moves.{turn_means, move_of, fault_number, AskChecked, Closes, Concludes, Joins, run_of}
 use Rattle.scheduler.specs.Outcomes.{outcome_of, layer_of}
 use Rattle.scheduler.specs.Settling.{Settles, Follows}
 use Rattle.scheduler.proofs.Reporting.{pairs_on}
-use Rattle.scheduler.proofs.Turning.{Wants, Ends, wants_is, ends_is, begins_is, fails_is}
+use Rattle.scheduler.proofs.Turning.{Wants, wants_is, retains_is, yields_is, begins_is, fails_is}
 use Rattle.scheduler.proofs.Stepping.{follows_as}
 use Rattle.scheduler.proofs.Stepping as steps
 
@@ -94,11 +94,16 @@ module _ {V : Type 0} (blank : V) (kept : ℕ) (same : (v w : V) → Dec (v ≡ 
       (steps.sinks blank kept same canon w (map number_of path) (number_of cell) cs vs len running (number_of a) w' report.ran report.list.now report'.ran report'.list.now
       f.number f.mark (number_of f.cell) (layer_of f.layer) (map number_of (take f.chain after)) (asks_for a t i e) k.0 k.1 s)
 
-  pub finishes : (v : V) (t : Turn V) (w' : View V) (report' : Report) (mc : Maybe Cell) → t ≡ Done v → Turned (Ok t) → number_in mc ≡ w.cause (number_of cell)
-      → Concludes canon kept w w' (number_of cell) running cs vs v → Joins (reported running cell mc) report report' → Comes w' report'.ran report'.list.now (gave (canon v))
+  pub keeps_it : (v : V) (t : Turn V) (w' : View V) → t ≡ Keep v → Turned (Ok t) → Closes w w' (number_of cell) (canon v) (map number_of cs) → Comes w' report.ran report.list.now (gave (canon v))
+  keeps_it v t w' i e k =
+      steps.kept blank kept same canon w (map number_of path) (number_of cell) cs vs len running v w' report.ran report.list.now
+      (subst (λ z. Plans z pairs (keeps (canon v))) (sym traces) (retains_is canon alike sound whole steady ts cs vs len cell chain step running v t i e)) k
+
+  pub finishes : (v : V) (t : Turn V) (w' : View V) (report' : Report) (mc : Maybe Cell) → t ≡ Give v → Turned (Ok t) → number_in mc ≡ w.cause (number_of cell)
+      → Concludes canon kept w w' (number_of cell) cs vs v → Joins (run_of cell mc) report report' → Comes w' report'.ran report'.list.now (gave (canon v))
   finishes v t w' report' mc i e m k j =
-      steps.done blank kept same canon w (map number_of path) (number_of cell) cs vs len (few_asked asked) running cell v w' report.ran report.list.now report'.ran report'.list.now mc refl m
-      (subst (λ z. Ends z step pairs running (canon v)) (sym traces) (ends_is canon alike sound whole steady ts cs vs len cell chain step running v t i e)) k j.count j.list
+      steps.given blank kept same canon w (map number_of path) (number_of cell) cs vs len running (few_asked asked) cell v w' report.ran report.list.now report'.ran report'.list.now mc refl m
+      (yields_is canon alike sound whole steady ts cs vs len cell chain step running v t i e) k j.count j.list
 
   pub begins_anew : (t : Turn V) (w' : View V) (ran' : ℕ) (list' : List Ran) (o : Outcome V) → t ≡ Begin → Turned (Ok t)
       → Follows blank kept w w' (map number_of path) (number_of cell) [] true report.ran report.list.now ran' list' o → Comes w' ran' list' o

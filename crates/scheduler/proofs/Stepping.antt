@@ -4,7 +4,7 @@ use mathlib.Core.Option.{Option, none, some}
 use Rattle.interfaces.specs.declared.cell.Cell.{Cell}
 use Rattle.interfaces.specs.Cells.{cell_count, ask_limit, number_of}
 use Rattle.interfaces.specs.Tasks.{Act, asks, gives, faults, Def, Verdict, step_of}
-use Rattle.interfaces.specs.Traces.{Pair, pairs_of, runs}
+use Rattle.interfaces.specs.Traces.{Pair, pairs_of, runs, keeps}
 use Rattle.past.specs.Afresh.{In, Log, Layer, engine, language, Outcome, gave, fault, values}
 use Rattle.past.specs.Past.{Past, Run, cells, defs, Cause, never, touched}
 use Rattle.past.specs.Law.{Lawful}
@@ -18,10 +18,10 @@ use Rattle.table.specs.Records.{number_in}
 use Rattle.moves.specs.declared.answer.Ran.{Ran}
 use Rattle.moves.specs.declared.asks.AskFault.{AskFault}
 use Rattle.moves.specs.declared.asks.AskFault.TheVariants.{Circle, NinthAsk}
-use Rattle.moves.specs.Moves.{fault_number, AskFaults, Concludes, count_after, list_after, reported}
+use Rattle.moves.specs.Moves.{fault_number, AskFaults, Closes, Concludes, count_after, list_after, run_of}
 use Rattle.scheduler.specs.Outcomes.{Listed}
 use Rattle.scheduler.specs.Settling.{Settles, Follows}
-use Rattle.scheduler.proofs.Turning.{Wants, Ends, recorded}
+use Rattle.scheduler.proofs.Turning.{Wants, recorded}
 use Rattle.scheduler.proofs.Reporting.{listed_same, listed_on, listed_push, cells_pairs, values_pairs, length_pairs}
 
 some_cause : (z : Option ℕ) → ¬ (z ≡ none) → (y : ℕ) × (z ≡ some y)
@@ -107,32 +107,31 @@ module _ {V : Type 0} (blank : V) (depth : ℕ) (same : (v w : V) → Dec (v ≡
         let g = fo' locks stands p (l ++ k.more) (r ++ k.ran_more) d first h k.mid_on k.ready_on (listed_same (ap (λ z. r ++ z) (sym k.ran_is)) b.1) in
         (k.join w₂ o g.0, listed_same (append_assoc r k.ran_more g.0.report ∙ ap (λ z. r ++ z) (sym (k.joined w₂ o g.0))) g.1)
 
-  -- what a conclusion leaves at a cell that is not locked
-  ended : (running running' : Bool) (w' : View V) (v : V) (locks : ℕ → Bool) (stands : List ℕ → Verdict V) (p : Past V) (l : Log V) (r : List (Run V)) (d : Def V) → Lawful blank locks stands depth p → Mid blank locks depth p l r w
-      → Ready blank locks depth p l path x d pairs running' → Concludes canon depth w w' x running cs vs v → Ended w w' x (canon v) (cells pairs)
-  ended running running' w' v locks stands p l r d h m ready ch =
-      subst (λ z. Ended w w' x (canon v) z) (sym (cells_pairs canon cs vs len)) (subst (λ b. Ended w w' x (cond b (w.stored x) (canon v)) (map number_of cs)) (is_open locks stands p l r d h m ready) ch.ended)
+    -- what the end of a doubt leaves at a cell that is not locked
+    ended : (w' : View V) (v : V) (locks : ℕ → Bool) (stands : List ℕ → Verdict V) (p : Past V) (l : Log V) (r : List (Run V)) (d : Def V) → Lawful blank locks stands depth p → Mid blank locks depth p l r w
+        → Ready blank locks depth p l path x d pairs running → Ended w w' x (cond (w.locked x) (w.stored x) (canon v)) (map number_of cs) → Ended w w' x (canon v) (cells pairs)
+    ended w' v locks stands p l r d h m ready e =
+        subst (λ z. Ended w w' x (canon v) z) (sym (cells_pairs canon cs vs len)) (subst (λ b. Ended w w' x (cond b (w.stored x) (canon v)) (map number_of cs)) (is_open locks stands p l r d h m ready) e)
 
-  given : length cs ≤ ask_limit → (cell : Cell) (v : V) (w' : View V) (ran : ℕ) (list : List Ran) (ran' : ℕ) (list' : List Ran) (mc : Maybe Cell) → number_of cell ≡ x → number_in mc ≡ w.cause x → step ≡ gives (canon v)
-      → Concludes canon depth w w' x true cs vs v → ran' ≡ count_after (reported true cell mc) ran list → list' ≡ list_after (reported true cell mc) ran list
-      → Follows blank depth w w' path x pairs true ran list ran' list' (gave (canon v))
-  given few cell v w' ran list ran' list' None c-is mc-is u ch counts lists locks stands p l r d first h m ready ls =
-      absurd (m.calm x (sym mc-is) (ready.path_doubts x ready.on_path).0 (ready.path_doubts x ready.on_path).1)
-  given few cell v w' ran list ran' list' (Some y) c-is mc-is u ch counts lists locks stands p l r d first h m ready ls =
-      let f = midway.follow_give blank locks stands depth same p h l r w m path x d pairs true ready (canon v) w' (number_of y) refl (sym mc-is) (sym (step_is locks stands p l r d h m ready) ∙ u) (ended true true w' v locks stands p l r d h m ready ch)
-      (λ k. ch.traces k ∙ recorded canon cs vs v len few depth x w.traces k) in
-      let a : Run V = record { cell = x; cause = number_of y; trace = record { asks = pairs; result = canon v } } in
-      let short = mid_short blank locks stands depth p h (l ++ f.0.log) (r ++ f.0.report) w' f.0.mid in
-      (f.0, listed_same (ap (λ z. r ++ z) (sym f.1)) (listed_push r ran list first ran' list' (record { cell = cell; cause = y }) a (λ i. record { cell = c-is i; cause = number_of y }) ls (omega (arith, short, length-append r f.0.report, ap length f.1)) counts lists))
+    -- a result is kept, and the report stays as it is
+    pub kept : (v : V) (w' : View V) (ran : ℕ) (list : List Ran) → Plans (w.traces x) pairs (keeps (canon v)) → Closes w w' x (canon v) (map number_of cs)
+        → Follows blank depth w w' path x pairs running ran list ran list (gave (canon v))
+    kept v w' ran list u ch locks stands p l r d first h m ready ls =
+        let f = midway.follow_keep blank locks stands depth same p h l r w m path x d pairs running ready (canon v) w' u (ended w' v locks stands p l r d h m ready ch.ended) ch.traces in
+        (f.0, listed_on r f.1 ls)
 
-  -- the cell comes to a value, which its run gives or which it keeps
-  pub done : length cs ≤ ask_limit → (running : Bool) (cell : Cell) (v : V) (w' : View V) (ran : ℕ) (list : List Ran) (ran' : ℕ) (list' : List Ran) (mc : Maybe Cell) → number_of cell ≡ x → number_in mc ≡ w.cause x
-      → Ends (w.traces x) step pairs running (canon v) → Concludes canon depth w w' x running cs vs v → ran' ≡ count_after (reported running cell mc) ran list → list' ≡ list_after (reported running cell mc) ran list
-      → Follows blank depth w w' path x pairs running ran list ran' list' (gave (canon v))
-  done few true cell v w' ran list ran' list' mc c-is mc-is u ch counts lists locks stands p l r d first h m ready ls = given few cell v w' ran list ran' list' mc c-is mc-is u ch counts lists locks stands p l r d first h m ready ls
-  done few false cell v w' ran list ran' list' mc c-is mc-is u ch counts lists locks stands p l r d first h m ready ls =
-      let f = midway.follow_keep blank locks stands depth same p h l r w m path x d pairs false ready (canon v) w' u (ended false false w' v locks stands p l r d h m ready ch) ch.traces in
-      (f.0, subst (λ z. Listed (r ++ f.0.report) z list' first) (sym counts) (subst (λ z. Listed (r ++ f.0.report) ran z first) (sym lists) (listed_on r f.1 ls)))
+    -- a run gives a value, and joins the report
+    pub given : length cs ≤ ask_limit → (cell : Cell) (v : V) (w' : View V) (ran : ℕ) (list : List Ran) (ran' : ℕ) (list' : List Ran) (mc : Maybe Cell) → number_of cell ≡ x → number_in mc ≡ w.cause x
+        → (running ≡ true) × (step ≡ gives (canon v)) → Concludes canon depth w w' x cs vs v → ran' ≡ count_after (run_of cell mc) ran list → list' ≡ list_after (run_of cell mc) ran list
+        → Follows blank depth w w' path x pairs running ran list ran' list' (gave (canon v))
+    given few cell v w' ran list ran' list' None c-is mc-is u ch counts lists locks stands p l r d first h m ready ls =
+        absurd (m.calm x (sym mc-is) (ready.path_doubts x ready.on_path).0 (ready.path_doubts x ready.on_path).1)
+    given few cell v w' ran list ran' list' (Some y) c-is mc-is u ch counts lists locks stands p l r d first h m ready ls =
+        let f = midway.follow_give blank locks stands depth same p h l r w m path x d pairs running ready (canon v) w' (number_of y) u.0 (sym mc-is) (sym (step_is locks stands p l r d h m ready) ∙ u.1) (ended w' v locks stands p l r d h m ready ch.ended)
+        (λ k. ch.traces k ∙ recorded canon cs vs v len few depth x w.traces k) in
+        let a : Run V = record { cell = x; cause = number_of y; trace = record { asks = pairs; result = canon v } } in
+        let short = mid_short blank locks stands depth p h (l ++ f.0.log) (r ++ f.0.report) w' f.0.mid in
+        (f.0, listed_same (ap (λ z. r ++ z) (sym f.1)) (listed_push r ran list first ran' list' (record { cell = cell; cause = y }) a (λ i. record { cell = c-is i; cause = number_of y }) ls (omega (arith, short, length-append r f.0.report, ap length f.1)) counts lists))
 
 module _ {V : Type 0} (blank : V) (depth : ℕ) (same : (v w : V) → Dec (v ≡ w)) (w : View V) (path : List ℕ) (a : ℕ) where
   pub settled_read : (v : V) (ran : ℕ) (list : List Ran) → v ≡ w.stored a → w.cause a ≡ none → Settles blank depth w w path a ran list ran list (gave v)

@@ -2,7 +2,8 @@
 use Rattle.std.proofs.Common.{◌≡◌, ℕ, ◌≤◌, Bool, true, false, List, ◌∷◌, map, length, take, Ok, Err, Result, sym, refl, ap, ◌∙◌, arith}
 use Rattle.std.proofs.lemmas.Bool.{eq-eqb, le-leb}
 use Rattle.interfaces.specs.declared.cell.Cell.{Cell}
-use Rattle.interfaces.specs.declared.step.Plan.TheVariants.{Run, Keep, Next}
+use Rattle.interfaces.specs.declared.step.Plan.TheVariants.{Run, Next}
+use Rattle.interfaces.specs.declared.step.Plan.TheVariants as plan
 use Rattle.interfaces.specs.Cells.{ask_limit, number_of}
 use Rattle.interfaces.specs.Tasks.{Act, asks, gives, faults}
 use Rattle.interfaces.specs.Traces.{Pair, Trace, Planned, runs, keeps, next, plan_for, pairs_of, recording, after_recording}
@@ -13,18 +14,13 @@ use Rattle.moves.proofs.Seeing.{but_changed}
 use Rattle.moves.specs.declared.answer.Fault.{Fault}
 use Rattle.moves.specs.declared.answer.Layer.TheVariants.{Language}
 use Rattle.moves.specs.declared.turns.Turn.{Turn}
-use Rattle.moves.specs.declared.turns.Turn.TheVariants.{Done, Begin, Ask}
-use Rattle.moves.specs.Moves.{ends, begins, wants, fails, plan_move, step_move, move_of, turn_means}
+use Rattle.moves.specs.declared.turns.Turn.TheVariants.{Keep, Begin, Give, Ask}
+use Rattle.moves.specs.Moves.{retains, begins, yields, wants, fails, plan_move, step_move, move_of, turn_means}
 
 -- what a cell asks for: in a run by its step, else by the plan
 abbrev pub Wants : {V : Type 0} → List (Trace V) → Act V → List (Pair V) → Bool → ℕ → Type 0
 Wants traces step pairs true a = step ≡ asks a
 Wants traces step pairs false a = Plans traces pairs (next a)
-
--- what it comes to
-abbrev pub Ends : {V : Type 0} → List (Trace V) → Act V → List (Pair V) → Bool → V → Type 0
-Ends traces step pairs true v = step ≡ gives v
-Ends traces step pairs false v = Plans traces pairs (keeps v)
 
 module _ {V : Type 0} where
   plan_wants : (p : Planned V) (a : ℕ) → wants a ≡ plan_move p → next a ≡ p
@@ -32,10 +28,15 @@ module _ {V : Type 0} where
   plan_wants (keeps v) a e = let z : ◌≡◌ {A = ℕ} 0 1 = cc in absurd (omega arith)
   plan_wants (next b) a e = cc
 
-  plan_ends : (p : Planned V) (v : V) → ends v ≡ plan_move p → keeps v ≡ p
-  plan_ends runs v e = let z : ◌≡◌ {A = ℕ} 0 1 = cc in absurd (omega arith)
-  plan_ends (keeps w) v e = cc
-  plan_ends (next b) v e = let z : ◌≡◌ {A = ℕ} 0 1 = cc in absurd (omega arith)
+  plan_retains : (p : Planned V) (v : V) → retains v ≡ plan_move p → keeps v ≡ p
+  plan_retains runs v e = let z : ◌≡◌ {A = ℕ} 0 1 = cc in absurd (omega arith)
+  plan_retains (keeps w) v e = cc
+  plan_retains (next b) v e = let z : ◌≡◌ {A = ℕ} 0 1 = cc in absurd (omega arith)
+
+  plan_yields : (p : Planned V) (v : V) → yields v ≡ plan_move p → ⊥
+  plan_yields runs v e = let z : ◌≡◌ {A = ℕ} 0 1 = cc in omega arith
+  plan_yields (keeps w) v e = let z : ◌≡◌ {A = ℕ} 0 1 = cc in omega arith
+  plan_yields (next b) v e = let z : ◌≡◌ {A = ℕ} 0 1 = cc in omega arith
 
   plan_begins : (p : Planned V) → begins ≡ plan_move p → runs ≡ p
   plan_begins runs e = refl
@@ -53,10 +54,15 @@ module _ {V : Type 0} where
     step_wants (gives v) a e = let z : ◌≡◌ {A = ℕ} 0 1 = cc in absurd (omega arith)
     step_wants (faults n m) a e = let z : ◌≡◌ {A = ℕ} 0 1 = cc in absurd (omega arith)
 
-    step_ends : (s : Act V) (v : V) → ends v ≡ step_move cell chain s → s ≡ gives v
-    step_ends (asks b) v e = let z : ◌≡◌ {A = ℕ} 0 1 = cc in absurd (omega arith)
-    step_ends (gives w) v e = cc
-    step_ends (faults n m) v e = let z : ◌≡◌ {A = ℕ} 0 1 = cc in absurd (omega arith)
+    step_yields : (s : Act V) (v : V) → yields v ≡ step_move cell chain s → s ≡ gives v
+    step_yields (asks b) v e = let z : ◌≡◌ {A = ℕ} 0 1 = cc in absurd (omega arith)
+    step_yields (gives w) v e = cc
+    step_yields (faults n m) v e = let z : ◌≡◌ {A = ℕ} 0 1 = cc in absurd (omega arith)
+
+    step_retains : (s : Act V) (v : V) → retains v ≡ step_move cell chain s → ⊥
+    step_retains (asks b) v e = let z : ◌≡◌ {A = ℕ} 0 1 = cc in omega arith
+    step_retains (gives w) v e = let z : ◌≡◌ {A = ℕ} 0 1 = cc in omega arith
+    step_retains (faults n m) v e = let z : ◌≡◌ {A = ℕ} 0 1 = cc in omega arith
 
     step_begins : (s : Act V) → begins ≡ step_move cell chain s → ⊥
     step_begins (asks b) e = let z : ◌≡◌ {A = ℕ} 0 1 = cc in omega arith
@@ -84,12 +90,19 @@ module _ {V : Type 0} (canon : V → V) (alike : V → V → Bool) (sound : (x y
   pub wants_is : (running : Bool) (a : Cell) (t : Turn V) → t ≡ Ask a → Moves running (Ok t) → Wants (map (plain_trace canon) ts) step (pairs_of canon cs vs) running (number_of a)
   wants_is running a t i e = wants_by running a (ap (λ z. turn_means canon (Ok z)) (sym i) ∙ e)
 
-  ends_by : (running : Bool) (v : V) → ends (canon v) ≡ move_of cell chain running (plan_for canon alike ts cs vs) step → Ends (map (plain_trace canon) ts) step (pairs_of canon cs vs) running (canon v)
-  ends_by true v e = step_ends cell chain step (canon v) e
-  ends_by false v e = planned_for canon alike sound whole steady ts cs vs (Keep v) len (plan_ends (plan_for canon alike ts cs vs) (canon v) e)
+  retains_by : (running : Bool) (v : V) → retains (canon v) ≡ move_of cell chain running (plan_for canon alike ts cs vs) step → Plans (map (plain_trace canon) ts) (pairs_of canon cs vs) (keeps (canon v))
+  retains_by true v e = absurd (step_retains cell chain step (canon v) e)
+  retains_by false v e = planned_for canon alike sound whole steady ts cs vs (plan.Keep v) len (plan_retains (plan_for canon alike ts cs vs) (canon v) e)
 
-  pub ends_is : (running : Bool) (v : V) (t : Turn V) → t ≡ Done v → Moves running (Ok t) → Ends (map (plain_trace canon) ts) step (pairs_of canon cs vs) running (canon v)
-  ends_is running v t i e = ends_by running v (ap (λ z. turn_means canon (Ok z)) (sym i) ∙ e)
+  pub retains_is : (running : Bool) (v : V) (t : Turn V) → t ≡ Keep v → Moves running (Ok t) → Plans (map (plain_trace canon) ts) (pairs_of canon cs vs) (keeps (canon v))
+  retains_is running v t i e = retains_by running v (ap (λ z. turn_means canon (Ok z)) (sym i) ∙ e)
+
+  yields_by : (running : Bool) (v : V) → yields (canon v) ≡ move_of cell chain running (plan_for canon alike ts cs vs) step → (running ≡ true) × (step ≡ gives (canon v))
+  yields_by true v e = (refl, step_yields cell chain step (canon v) e)
+  yields_by false v e = absurd (plan_yields (plan_for canon alike ts cs vs) (canon v) e)
+
+  pub yields_is : (running : Bool) (v : V) (t : Turn V) → t ≡ Give v → Moves running (Ok t) → (running ≡ true) × (step ≡ gives (canon v))
+  yields_is running v t i e = yields_by running v (ap (λ z. turn_means canon (Ok z)) (sym i) ∙ e)
 
   begins_by : (running : Bool) → begins ≡ move_of cell chain running (plan_for canon alike ts cs vs) step → Plans (map (plain_trace canon) ts) (pairs_of canon cs vs) runs
   begins_by true e = absurd (step_begins cell chain step e)

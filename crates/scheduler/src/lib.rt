@@ -16,7 +16,9 @@ pub use answer::{Answer, Fault, Layer, Ran};
 use interfaces::cell::{ASKS, CELLS, WORK};
 use interfaces::memory::check_room;
 use interfaces::{Asked, Cell, Language, Rebuilder, Refusal, Store, Value};
-use moves::{AskFault, Path, Report, Turn, check_ask, conclude, in_doubt, next_turn, read_stored};
+use moves::{
+    AskFault, Path, Report, Turn, check_ask, conclude, end_doubt, in_doubt, next_turn, read_stored,
+};
 use parts::Parts;
 
 // Brings a cell up to date. The path has the cells that are being worked out; a fault leaves them on it.
@@ -69,16 +71,20 @@ fn follow<V: Value, S: Store<V>, L: Language<V>, R: Rebuilder<V>>(
         report.old.ran report.old.list.now report.new.ran report.new.list.now (outcome_of V.Value.canon (path_cells path.new) result) }
 {
     let mut asked = Asked::new(&[]);
-    let mut running = false; // no value goes with it, so an enum would be no plainer
+    let mut running = false; // by which of the two, the plan or the step, it goes on
     loop {
         match next_turn(parts, cell, path.len(), &asked, work, running)? {
-            Turn::Done(value) => {
-                conclude(parts, cell, value, asked, running, report, work);
+            Turn::Keep(value) => {
+                end_doubt(parts, cell, value, asked);
                 return Ok(value);
             }
             Turn::Begin => {
                 asked = Asked::new(&[]);
                 running = true;
+            }
+            Turn::Give(value) => {
+                conclude(parts, cell, value, asked, report, work);
+                return Ok(value);
             }
             Turn::Ask(wanted) => {
                 check_ask(&parts.table, cell, wanted, path, &asked)?;

@@ -63,14 +63,22 @@ follow-returns-in_err-value-in-Ask-clause-follows g t c =
     c.in-Ask.is c.in_ok-value.ensures c.in_ok-check_ask-in-Ask.ensures s.settles in
     c.loop-value.invariant.joins (view g c.settle.new.parts) c.settle.new.report.ran c.settle.new.report.list.now _ k
 
-pub follow-returns-in-Done-clause-follows : goal.follow-returns-in-Done-clause-follows
-follow-returns-in-Done-clause-follows g t c =
+pub follow-returns-in-Keep-clause-follows : goal.follow-returns-in-Keep-clause-follows
+follow-returns-in-Keep-clause-follows g t c =
+    c.loop-value.invariant.joins (view g c.end_doubt.new.parts) c.loop-value.report.ran c.loop-value.report.list.now _
+    (going.keeps_it g.V.Value.blank g.R.Rebuilder.depth (discrete g.row.V.coded) g.V.Value.canon g.V.Value.alike g.met.V.Value.alike_sound g.met.V.Value.alike_whole g.met.V.Value.steady
+    (view g c.loop-value.parts) (path_cells c.loop-value.path) c.args.cell (g.R.Rebuilder.traces c.loop-value.parts.rebuilder (number_of c.args.cell)) c.loop-value.asked c.loop-value.work c.loop-value.running c.loop-value.report
+    refl (omega (arith, c.loop-value.auto.work, c.requires)) c.len.result
+    c.in-Keep.value c.in_ok-value.field-0 (view g c.end_doubt.new.parts) c.in-Keep.is c.in_ok-value.ensures c.end_doubt.ensures)
+
+pub follow-returns-in-Give-clause-follows : goal.follow-returns-in-Give-clause-follows
+follow-returns-in-Give-clause-follows g t c =
     c.loop-value.invariant.joins (view g c.conclude.new.parts) c.conclude.new.report.ran c.conclude.new.report.list.now _
     (going.finishes g.V.Value.blank g.R.Rebuilder.depth (discrete g.row.V.coded) g.V.Value.canon g.V.Value.alike g.met.V.Value.alike_sound g.met.V.Value.alike_whole g.met.V.Value.steady
     (view g c.loop-value.parts) (path_cells c.loop-value.path) c.args.cell (g.R.Rebuilder.traces c.loop-value.parts.rebuilder (number_of c.args.cell)) c.loop-value.asked c.loop-value.work c.loop-value.running c.loop-value.report
     refl (omega (arith, c.loop-value.auto.work, c.requires)) c.len.result
-    c.in-Done.value c.in_ok-value.field-0 (view g c.conclude.new.parts) c.conclude.new.report (record_in c.loop-value.parts.table (number_of c.args.cell)).cause
-    c.in-Done.is c.in_ok-value.ensures refl c.conclude.ensures.concludes c.conclude.ensures.report)
+    c.in-Give.value c.in_ok-value.field-0 (view g c.conclude.new.parts) c.conclude.new.report (record_in c.loop-value.parts.table (number_of c.args.cell)).cause
+    c.in-Give.is c.in_ok-value.ensures refl c.conclude.ensures.concludes c.conclude.ensures.report)
 
 pub follow-loop-value-preserved-in-Begin : goal.follow-loop-value-preserved-in-Begin
 follow-loop-value-preserved-in-Begin g t c = record {
