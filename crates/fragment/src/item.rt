@@ -1,7 +1,7 @@
 // Reads the items of a fragment. Each reader answers what it read and the place that follows, or the length of the
 // longest beginning of the text that also begins a fragment.
 // A text and a place in it are passed side by side, and an answer is a tuple: so the project has its readers.
-ghost use Rattle.std.specs.Prelude.{◌≡◌, ℕ, ◌+◌, ◌<◌, ◌≤◌, Bool, true, length, drop, if◌then◌else◌, MatchResult, ◌==◌, slice_index};
+ghost use Rattle.std.specs.Prelude.{◌≡◌, ℕ, ◌+◌, ◌<◌, ◌≤◌, length, drop, MatchResult};
 ghost use Rattle.interfaces.specs.Cells.{number_of};
 ghost use Rattle.fragment_grammar.specs.Grammar.{Sound};
 ghost use Rattle.fragment_grammar.specs.Reader.{is_column, is_plain, name_in, named, empty_in, filled_in, tested_in, item_in, rows};

@@ -9,5 +9,5 @@ pub returns-then-stands_at-2 : goal.returns-then-stands_at-2
 returns-then-stands_at-2 c =
     c.filled_from.ensures
     ∙ sym (named_ok c.args.text.now c.args.at (number_of c.in_ok-cell.cell) c.in_ok-cell.next tested_in c.in_ok-cell.ensures.reads
-    ∙ tested_choice c.args.text.now c.in_ok-cell.next (number_of c.in_ok-cell.cell) 
-      (stands_no c.args.text.now c.in_ok-cell.next closing (omega arith) c.if-stands_at.ensures) (stands_yes c.args.text.now c.in_ok-cell.next question c.if-stands_at-2.ensures))
+    ∙ tested_choice c.args.text.now c.in_ok-cell.next (number_of c.in_ok-cell.cell)
+    (stands_no c.args.text.now c.in_ok-cell.next closing (omega arith) c.if-stands_at.ensures) (stands_yes c.args.text.now c.in_ok-cell.next question c.if-stands_at-2.ensures))
