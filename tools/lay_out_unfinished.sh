@@ -1,12 +1,13 @@
 #!/bin/sh
 # Lays out the unfinished work as a tree of its own in a new folder, where `rt all check` proves it:
-# the crates as they are here, less the files that that tree does not have, with those of unfinished/ over them.
+# the crates as they were before the design pass, less the files that that tree does not have, with those of unfinished/
+# over them. It needs that commit, the first line of docs/DESIGN-PASS.md, in the clone.
 # usage: sh tools/lay_out_unfinished.sh FOLDER
 set -eu
 top=$(cd "$(dirname "$0")/.." && pwd)
 to=$1
 mkdir "$to"
-(cd "$top" && git ls-files crates | tar cf - -T -) | tar xf - -C "$to"
+git -C "$top" archive "$(head -1 "$top/docs/DESIGN-PASS.md")" crates | tar xf - -C "$to"
 while read -r gone; do
   rm -f "$to/crates/$gone"
 done < "$top/unfinished/not-in-that-tree.txt"
