@@ -1,14 +1,14 @@
--- Numerals digit by digit: which digits are none, and what a loop over digits comes to. The library reads and writes numbers;
--- these lemmas say the same of their digits. Assumes nothing of the bytes.
+-- Numerals digit by digit: which digits are none, and what a loop over digits comes to. Assumes nothing of the bytes.
 use Rattle.std.specs.Prelude.{◌≡◌, ℕ, suc, ◌+◌, ◌-◌, ◌*◌, ◌^◌, ◌<◌, ◌≤◌, true, false, List, [], ◌∷◌, length, take, drop, ℤ, pos, negsuc, decimal, int_lt, slice_index, slice_range, unsigned_abs, refl}
 use Rattle.std.proofs.Common.{sym, ◌∙◌, ap, arith, length-take, length-drop}
+use Rattle.std.specs.Char.{digit_value}
 use Rattle.std.specs.Str.Parse.{AllDigits, digits_value}
 use Rattle.std.specs.Fmt.{signed_decimal}
 use Rattle.std.proofs.lemmas.Fmt.{length-decimal-le, digits_value-decimal, decimal-digits_value, decimal_injective}
 use Rattle.std.proofs.lemmas.Int.Digits.{digits_value_more, digits_more}
 use Rattle.std.proofs.lemmas.Str.{digit_value_digit}
 use Rattle.std.proofs.ByRecursion.{All-get_or}
-use Rattle.std.proofs.lemmas.Str.Parse.{IsNumeralModel, numerals_by_value, tells_digits, digits_value_short}
+use Rattle.std.proofs.lemmas.Str.Parse.{IsNumeralModel, numerals_by_value, tells_digits, digits_value_short, digits_value-take-le}
 use Rattle.std.proofs.lemmas.List.{take_all}
 use Rattle.std.proofs.lemmas.Bool.Decides.{nat_tests}
 use Rattle.whole.specs.Whole.{whole_limit, IsDigit, IsNumeral, begun_well, NoNumeral, NoNumber}
@@ -50,6 +50,33 @@ pub read_numeral : (ds : List ℕ) (n : ℕ) → n ≡ digits_value 10 ds → n 
 read_numeral ds n e h d b =
     let p = plainly ds b in
     ap decimal e ∙ decimal-digits_value theirs ds d p.0 p.1 (omega arith)
+
+-- how digits begin: which beginnings are good, by the length and the first byte
+pub ill_empty : (ds : List ℕ) → length ds < 1 → begun_well ds ≡ false
+ill_empty [] l = refl
+ill_empty (d ∷ ds) l = absurd (omega arith)
+
+pub ill_zero : (ds : List ℕ) → 2 ≤ length ds → slice_index ds 0 ≡ 48 → begun_well ds ≡ false
+ill_zero [] l e = absurd (omega arith)
+ill_zero (d ∷ []) l e = absurd (omega arith)
+ill_zero (d ∷ f ∷ ds) l e = grind (arith, nat_tests)
+
+pub well_lone : (ds : List ℕ) → length ds ≡ 1 → begun_well ds ≡ true
+well_lone [] l = absurd (omega arith)
+well_lone (d ∷ []) l = refl
+well_lone (d ∷ e ∷ ds) l = absurd (omega arith)
+
+pub well_first : (ds : List ℕ) → 1 ≤ length ds → (slice_index ds 0 ≡ 48 → ⊥) → begun_well ds ≡ true
+well_first [] l f = absurd (omega arith)
+well_first (d ∷ []) l f = refl
+well_first (d ∷ e ∷ ds) l f = grind (arith, nat_tests)
+
+-- digits are none where those up to one of them write too large a number already
+pub grown_too_large : (ds : List ℕ) (i n d : ℕ) → i < length ds → d ≡ digit_value (slice_index ds i) → n ≡ digits_value 10 (take i ds) → whole_limit < n * 10 + d → NoNumeral ds
+grown_too_large ds i n d l e v h =
+    let m = digits_value_more 10 ds i l in
+    let t = digits_value-take-le 10 ds (i + 1) (omega arith) in
+    too_large ds (omega (arith, m, t, e, v, h))
 
 -- a loop over digits: what is read so far is small, and one digit more
 pub few : (ds : List ℕ) (i n : ℕ) → length ds ≤ 10 → AllDigits 10 (take i ds) → n ≡ digits_value 10 (take i ds) → n < 10 ^ 10

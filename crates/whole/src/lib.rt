@@ -2,9 +2,10 @@
 // means the blank, 0. Nothing is assumed of a record or of bytes that come in.
 #![tactic(auto)]
 
-ghost use Rattle.std.specs.Prelude.{◌≡◌, ◌≤◌, decimal, MatchOption};
+ghost use Rattle.std.specs.Prelude.{◌≡◌, ◌≤◌, ◌∷◌, decimal, MatchOption, unsigned_abs};
+ghost use Rattle.std.specs.Fmt.{signed_decimal};
 ghost use Rattle.interfaces.specs.Printing.{written_bytes};
-ghost use Rattle.whole.specs.Whole.{whole_blank, whole_means, whole_canon, whole_alike, whole_new, written_whole, WholeForm, NoNumber};
+ghost use Rattle.whole.specs.Whole.{whole_limit, whole_blank, whole_means, whole_canon, whole_alike, whole_new, written_whole, WholeForm, NoNumeral, NoNumber};
 ghost use Rattle.std.proofs.Common.{rules};
 ghost use Rattle.whole.specs.Numbers.{same_meaning};
 
@@ -117,16 +118,42 @@ fn form_of<I: Integer>(n: I) -> Written
     Written::from_pieces(buffer.format(n).as_bytes(), &[]).unwrap()
 }
 
-// The number within the limits that the bytes write. `parse` also takes a plus sign, zeros in front and
-// `-0`, so the number that it answers has to be written as these bytes.
+// The number within the limits that the bytes write. Digit by digit, since `parse` reads text alone, and also takes a
+// plus sign, zeros in front and `-0`: to look for these too costs more than the reading.
 fn number(text: &[u8]) -> Option<Whole>
     ensures { MatchOption result (NoNumber text.now) (λ w. written_whole w.value ≡ text.now) }
 {
-    let value = str::from_utf8(text).ok()?.parse().ok()?;
-    let whole = Whole::new(value)?;
-    if whole.write().as_slice() == text {
-        Some(whole)
-    } else {
-        None
+    let value = match text {
+        [b'-', digits @ ..] => negative(digits)?,
+        _ => numeral(text)? as i32, // at most LIMIT
+    };
+    Some(Whole { value })
+}
+
+// The number below 0 whose digits these are.
+fn negative(digits: &[u8]) -> Option<i32>
+    ensures { MatchOption result (NoNumber (45 ∷ digits.now)) (λ z. (unsigned_abs z ≤ whole_limit) × (signed_decimal z ≡ 45 ∷ digits.now)) }
+{
+    match numeral(digits)? {
+        0 => None,
+        n => Some(-(n as i32)), // at most LIMIT
     }
+}
+
+// The number within the limits that the digits write.
+fn numeral(digits: &[u8]) -> Option<u32>
+    ensures { MatchOption result (NoNumeral digits.now) (λ n. (n ≤ whole_limit) × (decimal n ≡ digits.now)) }
+{
+    // a zero stands in front of no other digit
+    if let [] | [b'0', _, ..] = digits {
+        return None;
+    }
+    let mut n: u32 = 0;
+    for digit in digits {
+        if !digit.is_ascii_digit() {
+            return None;
+        }
+        n = n.checked_mul(10)?.checked_add(u32::from(*digit - b'0'))?;
+    }
+    if n <= LIMIT { Some(n) } else { None }
 }
