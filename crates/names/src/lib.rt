@@ -4,7 +4,7 @@
 ghost use Rattle.std.specs.Prelude.{◌≡◌, ℕ, ◌+◌, ◌<◌, ◌≤◌, length, MatchOption, MatchResult, slice_index};
 ghost use Rattle.interfaces.specs.Cells.{cell_count, number_of};
 ghost use Rattle.interfaces.specs.Printing.{written_bytes};
-ghost use Rattle.names.specs.Names.{byte_stands, name_of, OffsetAt, NameAt, NoNameAt, left_at, LeftAt, Named, OneName};
+ghost use Rattle.names.specs.Names.{ByteAt, byte_stands, column_count, name_of, OffsetAt, NameAt, NoNameAt, left_at, LeftAt, Named, OneName};
 
 use interfaces::cell::{CELLS, Cell};
 use interfaces::written::Written;
@@ -28,6 +28,14 @@ pub fn offset_at(text: &[u8], at: usize, first: u8, last: u8) -> Option<u8>
     }
 }
 
+// The column whose letter stands at a place.
+fn column_at(text: &[u8], at: usize) -> Option<usize>
+    ensures { MatchOption result ((d : ℕ) → d < column_count → ByteAt text.now at (65 + d) → ⊥) (λ d. (d < column_count) × ByteAt text.now at (65 + d)) }
+{
+    let offset = offset_at(text, at, b'A', b'P')?;
+    Some(usize::from(offset))
+}
+
 /// Whether a byte stands at a place.
 pub fn stands_at(text: &[u8], at: usize, byte: u8) -> bool
     ensures { result ≡ byte_stands text.now at byte }
@@ -39,7 +47,7 @@ pub fn stands_at(text: &[u8], at: usize, byte: u8) -> bool
 pub fn name_at(text: &[u8], at: usize) -> Option<(Cell, usize)>
     ensures { MatchOption result (NoNameAt text.now at) (λ p. NameAt text.now at (number_of p.0) p.1) }
 {
-    let column = usize::from(offset_at(text, at, b'A', b'P')?);
+    let column = column_at(text, at)?;
     let row = usize::from(offset_at(text, at + 1, b'0', b'9')?);
     if row == 0 {
         return None;
