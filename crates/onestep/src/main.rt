@@ -10,6 +10,7 @@ use interfaces::language::Language;
 use interfaces::refusal::Refusal;
 use interfaces::step::{LanguageFault, Step};
 use interfaces::value::Printed;
+use itoa::{Buffer, Integer};
 use names::write_name;
 use sheet::Sheet;
 use std::alloc::{AllocError, AllocFailed, Global};
@@ -40,26 +41,38 @@ impl<T: Drop> From<AllocFailed<T>> for NoStep {
     }
 }
 
-fn print_refusal(out: &mut Vec<u8>, refusal: Refusal) -> io::Result<()> {
-    let number = refusal.number();
-    match refusal.place() {
-        Some(place) => write!(out, "no {number} {place}"),
-        None => write!(out, "no {number}"),
+// Appends a number by its digits alone: through `write!` each piece of a line costs more than its bytes.
+fn print_number<I: Integer>(out: &mut Vec<u8>, number: I) -> Result<(), AllocError> {
+    out.extend_from_slice(Buffer::new().format(number).as_bytes())
+}
+
+fn print_refusal(out: &mut Vec<u8>, refusal: Refusal) -> Result<(), AllocError> {
+    out.extend_from_slice(b"no ")?;
+    print_number(out, refusal.number())?;
+    if let Some(place) = refusal.place() {
+        out.extend_from_slice(b" ")?;
+        print_number(out, place)?;
     }
+    Ok(())
 }
 
 // Written names and values are bytes and no `str`, so no `{}` prints them.
-fn print_step<V: Printed>(out: &mut Vec<u8>, step: Step<V>) -> io::Result<()> {
+fn print_step<V: Printed>(out: &mut Vec<u8>, step: Step<V>) -> Result<(), AllocError> {
     match step {
         Step::Ask(cell) => {
-            out.write_all(b"ask ")?;
-            out.write_all(write_name(cell).as_slice())
+            out.extend_from_slice(b"ask ")?;
+            out.extend_from_slice(write_name(cell).as_slice())
         }
         Step::Give(value) => {
-            out.write_all(b"value ")?;
-            out.write_all(value.write().as_slice())
+            out.extend_from_slice(b"value ")?;
+            out.extend_from_slice(value.write().as_slice())
         }
-        Step::Fault(LanguageFault { number, mark }) => write!(out, "fault {number} {mark}"),
+        Step::Fault(LanguageFault { number, mark }) => {
+            out.extend_from_slice(b"fault ")?;
+            print_number(out, number)?;
+            out.extend_from_slice(b" ")?;
+            print_number(out, mark)
+        }
     }
 }
 
@@ -92,7 +105,7 @@ fn answer_all<V: Printed, L: Language<V>>(
             Err(NoStep::Refused(refusal)) => print_refusal(out, refusal)?,
             Err(NoStep::Memory(error)) => return Err(error.into()),
         }
-        out.write_all(b"\n")?;
+        out.extend_from_slice(b"\n")?;
     }
     Ok(())
 }
