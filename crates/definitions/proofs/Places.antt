@@ -1,7 +1,8 @@
--- The place where a text leaves a language: there is one. Assumes nothing.
-use Rattle.std.proofs.Common.{◌≡◌, ℕ, List, ⊎_elim}
+-- The place where a text leaves a language: there is one, and a legal text has none. Assumes nothing.
+use Rattle.std.proofs.Common.{◌≡◌, ℕ, List, [], ⊎_elim}
+use Rattle.std.proofs.lemmas.List.{append-nil}
 use Rattle.std.proofs.lemmas.Bool.{cases_order}
-use Rattle.definitions.specs.Longest.{Longest}
+use Rattle.definitions.specs.Longest.{Begins, Longest}
 
 module _ (Legal : List ℕ → Type 0) where
   -- the place is one
@@ -10,3 +11,7 @@ module _ (Legal : List ℕ → Type 0) where
       (λ e. e)
       (λ o. absurd (⊎_elim (λ l. a.ends q l b.fits b.begins) (λ l. b.ends p l a.fits a.begins) o))
       (cases_order p q)
+
+  -- a legal text begins with each of its beginnings, itself too
+  pub legal_begins : (text : List ℕ) → Legal text → Begins Legal text
+  legal_begins text h = record { rest = []; legal = let e = append-nil text in rw e h }

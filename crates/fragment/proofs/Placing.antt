@@ -207,3 +207,7 @@ row_fronted i (astray p) = refl
 pub answer_row : (r : Rows) (u : Unit {0}) → Ok u ≡ row_answer r → (items : List Item) × (r ≡ row items)
 answer_row (row items) u e = (items, refl)
 answer_row (astray p) u e = absurd (ok_err u p e)
+
+pub answer_astray : (r : Rows) (p : ℕ) → Err p ≡ row_answer r → r ≡ astray p
+answer_astray (row items) p e = absurd (ok_err tt p (sym e))
+answer_astray (astray q) p e = let u : q ≡ p = cc in ap astray u

@@ -68,6 +68,13 @@ fits out buffer left len l a e =
     let f : left ≡ overFront out buffer = e ∙ cond-true _ _ _ t in
     let p = take_at out (drop (length out) buffer) len (sym n) in cc
 
+-- and is not refused
+pub never_broken : (out buffer : List ℕ) (s : Said) → length out ≤ length buffer → ◌≡◌ {A = Result ℕ Said} (Err s) (line_answer out buffer) → ⊥
+never_broken out buffer s l a =
+    let t = le-leb (length out) (length buffer) l in
+    let q : ◌≡◌ {A = Result ℕ Said} (Err s) (Ok (length out)) = a ∙ cond-true _ _ _ t in
+    let z : ◌≡◌ {A = ℕ} 0 1 = cc in omega arith
+
 module _ {V : Type 0} (written : V → List ℕ) (unread : ℕ) (locked : ℕ → Bool) where
   -- in the midst of a session: what was printed so far, and that what is left completes it
   pub record Under (start : ℕ → V) (lines before : List ℕ) (state : ℕ → V) (locks : ℕ → Bool) (rest out : List ℕ) : Type 0 where

@@ -1,5 +1,6 @@
--- The total of some cells, answer by answer.
-use Rattle.std.proofs.Common.{◌≡◌, ℕ, zero, suc, ◌+◌, ◌-◌, ◌*◌, ◌<◌, ◌≤◌, Bool, true, false, cond, List, [], ◌∷◌, length, get_or, take, drop, ℤ, pos, ◌+ℤ◌, nat_abs, refl, ap, ◌∙◌, arith}
+-- The total of some cells, answer by answer, and that a product of two numbers within the limits fits.
+use Rattle.std.proofs.Common.{◌≡◌, ℕ, zero, suc, ◌+◌, ◌-◌, ◌*◌, ◌<◌, ◌≤◌, Bool, true, false, cond, List, [], ◌∷◌, length, get_or, take, drop, ℤ, pos, negsuc, ◌+ℤ◌, ◌*ℤ◌, neg_ℤ, nat_abs, refl, ap, ◌∙◌, mul-le-mul, arith, w64, SFits}
+use Rattle.std.specs.Int.Signed.{mag}
 use Rattle.std.proofs.lemmas.Bool.{leb-true}
 use Rattle.std.proofs.lemmas.Grind.{common_steps}
 use Rattle.std.proofs.lemmas.Int.{ints}
@@ -29,6 +30,28 @@ means_by false z e = omega arith
 
 pub means_within : (v : Whole) → nat_abs (whole_means v) ≤ whole_limit
 means_within v = means_by (within_limits v.value) v.value refl
+
+-- a product of numbers within the limits
+abs_neg : (n : ℕ) → nat_abs (neg_ℤ (pos n)) ≡ n
+abs_neg zero = refl
+abs_neg (suc n) = refl
+
+abs_mul : (a b : ℤ) → nat_abs (a *ℤ b) ≡ nat_abs a * nat_abs b
+abs_mul (pos a) (pos b) = refl
+abs_mul (pos a) (negsuc b) = abs_neg (a * suc b)
+abs_mul (negsuc a) (pos b) = abs_neg (suc a * b)
+abs_mul (negsuc a) (negsuc b) = refl
+
+mag_le : (z : ℤ) → mag z ≤ nat_abs z
+mag_le (pos n) = omega arith
+mag_le (negsuc n) = omega arith
+
+pub product_fits : (x y : ℤ) → nat_abs x ≤ whole_limit → nat_abs y ≤ whole_limit → SFits w64 (x *ℤ y)
+product_fits x y p q =
+    let m : nat_abs x * nat_abs y ≤ whole_limit * whole_limit = mul-le-mul p q in
+    let n = abs_mul x y in
+    let k = mag_le (x *ℤ y) in
+    record { sfits = omega arith }
 
 abs_add : (a b : ℤ) → nat_abs (a +ℤ b) ≤ nat_abs a + nat_abs b
 abs_add a b = grind (arith, ints)
