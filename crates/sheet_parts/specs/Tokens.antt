@@ -1,12 +1,15 @@
 -- The smallest parts of a formula at a place of a text. What is read comes with the place behind it, and what
--- cannot be read with the place where the text goes wrong.
-use Rattle.std.specs.Prelude.{◌≡◌, ℕ, ◌+◌, ◌*◌, cond, List, [], ◌∷◌, drop, pos, Some, None, Ok, Err, Option as Maybe, Result, ◌==◌, nat_le, slice_index}
+-- cannot be read with the place where the text goes wrong. Each part is said twice: as the value that is read, and
+-- in the words of the reader of formulas.
+use Rattle.std.specs.Prelude.{◌≡◌, ℕ, ◌+◌, ◌*◌, ◌<◌, ◌≤◌, cond, List, [], ◌∷◌, length, drop, pos, Some, None, Ok, Err, Option as Maybe, Result, ◌==◌, nat_le, slice_index, slice_index_or}
 use Rattle.std.proofs.Math.Option.{Option, none, some}
-use Rattle.interfaces.specs.Cells.{number_of}
+use Rattle.interfaces.specs.Cells.{cell_count, number_of}
 use Rattle.names.specs.Names.{byte_stands, NoNameAt}
 use Rattle.whole.specs.declared.Whole.{Whole}
 use Rattle.whole.specs.Whole.{whole_limit}
 use Rattle.formula.specs.Bytes.{digit_of, column_of}
+use Rattle.formula.specs.Grammar.{number, sum_limit}
+use Rattle.formula.specs.Reader.{AtFactor, Use, State, want, have, want_name, due_all, hand, named, counted, Reading, fails, run}
 use Rattle.sheet_work.specs.declared.block.Block.{Block}
 use Rattle.sheet_work.specs.Blocks.{block_of}
 
@@ -64,3 +67,55 @@ count_from at c (some d) = block_at at (block_of c d)
 
 abbrev pub count_in : List ℕ → ℕ → ℕ → Result (ℕ × ℕ) ℕ
 count_in text at c = count_from at c (digit_of (slice_index text at))
+
+-- what the text comes to from a place and a state on
+abbrev pub run_at : List ℕ → ℕ → State → Reading
+run_at text at st = run at st (drop at text)
+
+-- the text goes wrong at the place
+pub record Failed {X : Type 0} (start : X → State) (text : List ℕ) (at place : ℕ) : Type 0 where
+  pub stops : (x : X) → run_at text at (start x) ≡ fails place
+  pub fits : place ≤ length text
+
+-- the byte stands at the place, or another or none
+pub record Met (text : List ℕ) (at byte next : ℕ) : Type 0 where
+  pub next_is : next ≡ at + 1
+  pub within : at < length text
+  pub is : slice_index_or text at 0 ≡ byte
+
+pub record Missed (text : List ℕ) (at byte place : ℕ) : Type 0 where
+  pub place_is : place ≡ at
+  pub is_not : slice_index_or text at 0 ≡ byte → ⊥
+
+-- the bytes of a word were read
+pub record Spelled (text : List ℕ) (at : ℕ) (word : List ℕ) (next : ℕ) : Type 0 where
+  pub runs : (st : State) → run_at text at (due_all word st) ≡ run_at text next st
+  pub next_is : next ≡ at + length word
+  pub fits : next ≤ length text
+
+-- a number was read
+pub record NumberRead (text : List ℕ) (at n next : ℕ) : Type 0 where
+  pub runs : (w : AtFactor) → run_at text at (want w) ≡ run_at text next (have (hand (number n) w))
+  pub limit : n ≤ whole_limit
+  pub onward : at < next
+  pub fits : next ≤ length text
+
+-- the name of a cell was read
+pub record NameRead (text : List ℕ) (at c next : ℕ) : Type 0 where
+  pub runs : (u : Use) → run_at text at (want_name u) ≡ run_at text next (named u c)
+  pub within : c < cell_count
+  pub onward : at < next
+  pub fits : next ≤ length text
+
+-- a count stands at the place that a sum from the cell `c` on may have
+pub record CountRead (text : List ℕ) (at c count : ℕ) : Type 0 where
+  pub within : at < length text
+  pub is : digit_of (slice_index text at) ≡ some count
+  pub some_cell : 0 < count
+  pub few : count ≤ sum_limit
+  pub last : c + count ≤ cell_count
+
+-- no count that such a sum may have
+pub record NoCount (text : List ℕ) (at c place : ℕ) : Type 0 where
+  pub place_is : place ≡ at
+  pub refused : (mark : ℕ) (w : AtFactor) → counted mark c w (digit_of (slice_index text at)) ≡ none

@@ -9,7 +9,8 @@ ghost use Rattle.interfaces.specs.Cells.{number_of};
 ghost use Rattle.names.specs.Names.{NameAt};
 ghost use Rattle.whole.specs.Whole.{whole_limit};
 ghost use Rattle.formula.specs.Bytes.{link_of, digit_of, start_of};
-ghost use Rattle.sheet_parts.specs.Tokens.{spelled, whole_of, number_in, NoName, count_means, count_in};
+ghost use Rattle.formula.specs.Reader.{want, want_name, due_all};
+ghost use Rattle.sheet_parts.specs.Tokens.{spelled, whole_of, number_in, NoName, count_means, count_in, Failed, Met, Missed, Spelled, NumberRead, NameRead, CountRead, NoCount};
 
 use formula::byte::{Link, Start, link_of, start_of};
 use interfaces::cell::Cell;
@@ -53,14 +54,16 @@ fn digit_at(text: &[u8], at: usize) -> Option<u8>
 
 /// The place after a byte, if that byte stands there.
 pub fn expect(text: &[u8], at: usize, byte: u8) -> Result<usize, usize>
-    ensures { result ≡ spelled text.now at (byte ∷ []) }
+    ensures reads { result ≡ spelled text.now at (byte ∷ []) }
+    ensures means { 0 < byte → MatchResult result (λ next. Met text.now at byte next) (λ place. Missed text.now at byte place) }
 {
     spell(text, at, &[byte])
 }
 
 /// The place after a word, if that word stands there.
 pub fn spell(text: &[u8], at: usize, word: &[u8]) -> Result<usize, usize>
-    ensures { result ≡ spelled text.now at word.now }
+    ensures reads { result ≡ spelled text.now at word.now }
+    ensures means { at ≤ length text.now → MatchResult result (λ next. Spelled text.now at word.now next) (λ place. Failed (due_all word.now) text.now at place) }
 {
     // tried: `try_fold`, `zip` with `position`, and `take_while` with `count`; the check does not find the proof, which
     // would go by what each ensures of the calls of its closure
@@ -82,7 +85,10 @@ fn whole_of(n: u64) -> Whole
 
 /// The number at a place.
 pub fn number(text: &[u8], at: usize) -> Result<(Whole, usize), usize>
-    ensures { result ≡ number_in text.now at }
+    ensures reads { result ≡ number_in text.now at }
+    ensures means { (d : ℕ) → start_of (slice_index text.now at) ≡ Start.Digit d → MatchResult result
+        (λ p. (n : ℕ) × (p.0 ≡ whole_of n) × NumberRead text.now at n p.1)
+        (λ place. Failed want text.now at place) }
 {
     let Some(first) = digit_at(text, at) else {
         return Err(at);
@@ -106,14 +112,18 @@ pub fn number(text: &[u8], at: usize) -> Result<(Whole, usize), usize>
 // It says in the words of the grammar of formulas what `name_or_end` finds.
 /// The name at a place, the longest one.
 pub fn name(text: &[u8], at: usize) -> Result<(Cell, usize), usize>
-    ensures { MatchResult result (λ p. NameAt text.now at (number_of p.0) p.1) (λ place. NoName text.now at place) }
+    ensures reads { MatchResult result (λ p. NameAt text.now at (number_of p.0) p.1) (λ place. NoName text.now at place) }
+    ensures means { at ≤ length text.now → MatchResult result (λ p. NameRead text.now at (number_of p.0) p.1) (λ place. Failed want_name text.now at place) }
 {
     name_or_end(text, at)
 }
 
 /// The cells of a sum, by its first one and the count at a place.
 pub fn count(text: &[u8], at: usize, first: Cell) -> Result<Block, usize>
-    ensures { count_means result ≡ count_in text.now at (number_of first) }
+    ensures reads { count_means result ≡ count_in text.now at (number_of first) }
+    ensures means { MatchResult result
+        (λ b. (number_of b.first ≡ number_of first) × CountRead text.now at (number_of first) b.count)
+        (λ place. NoCount text.now at (number_of first) place) }
 {
     digit_at(text, at)
         .and_then(|digit| Block::new(first, usize::from(digit)))

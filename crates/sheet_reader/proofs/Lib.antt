@@ -1,4 +1,3 @@
 pub mod Exits
 pub mod Flows
 pub mod Parts
-pub mod Tokens

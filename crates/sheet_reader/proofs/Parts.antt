@@ -1,6 +1,6 @@
 -- The parts of a formula, read and worked out.
 use Rattle.std.proofs.Common.{◌≡◌, ℕ, ◌+◌, ◌<◌, ◌≤◌, eqb, leb, List, [], ◌∷◌, length, get_or, drop, pos, Ok, Err, sym, refl, ap, ◌∙◌, subst, ⊎_elim, arith}
-use mathlib.Core.Option.{Option, none, some}
+use mathlib.Core.Option.{none}
 use Rattle.std.proofs.lemmas.Bool.{cond-false, cond-true, ne_eqb, le-leb, cases_lt}
 use Rattle.std.proofs.lemmas.List.{drop_more, drop_all}
 use Rattle.interfaces.specs.Cells.{text_limit}
@@ -14,24 +14,24 @@ use Rattle.formula.specs.declared.byte.Start.TheVariants.{Negation, Group, Choic
 use Rattle.formula.specs.Bytes.{link_of, column_of, start_of}
 use Rattle.formula.specs.Grammar.{Tree, number, cell, negated, joined, choice, lookup, total}
 use Rattle.formula.specs.Meaning.{value, and_then, asked, looked_up, totalled}
-use Rattle.formula.specs.Reader.{Around, whole, in_group, in_first, in_second, in_third, in_lookup, AtTerm, first_term, after_sum, AtFactor, after_product, behind_minus, as_factor, as_first, State, want, have, want_name, want_row, due, want_count, due_all, inside, hand, begin, shut, link, name_begins, counted, step, end, Reading, fails, ended, onward, run, reading}
+use Rattle.formula.specs.Reader.{Around, whole, in_group, in_first, in_second, in_third, in_lookup, AtTerm, first_term, after_sum, AtFactor, after_product, behind_minus, as_factor, as_first, State, want, have, want_name, want_row, due, want_count, due_all, inside, hand, begin, shut, link, name_begins, counted, step, fails, run, reading}
 use Rattle.formula.proofs.Bytes.{start_column_is, column_at_lem, digit_at}
 use Rattle.formula.proofs.Runs.{run_end, run_stop, NoStrong, sum_ends, count_good}
 use Rattle.sheet_work.specs.Flows.{Flow, Worked, flow_after, outcome_of, go_on, work_from, negation, operation, chosen}
-use Rattle.sheet_reader.specs.Readers.{run_at, Failed, factor_after, term_start, term_after, formula_after, Took, NoProduct, Closes, TookPart, FailedPart, WholeRead, WholeFailed}
+use Rattle.sheet_reader.specs.Readers.{factor_after, term_start, term_after, formula_after, Took, NoProduct, Closes, TookPart, FailedPart, WholeRead, WholeFailed}
 use Rattle.names.specs.Names.{NameAt}
-use Rattle.sheet_parts.specs.Tokens.{spelled, whole_of, number_in, NoName, count_in}
+use Rattle.sheet_parts.specs.Tokens.{spelled, whole_of, number_in, NoName, count_in, run_at, Failed, Spelled, NameRead, CountRead}
 use Rattle.sheet_reader.proofs.Flows.{negated_flow, lookup_flow, joined_flow, choice_flow}
-use Rattle.sheet_reader.proofs.Tokens.{step_at_lem, stop_at, inside_text, Spelled, spelled_ok, spelled_err, met, missed, number_ok, number_err, NameRead, name_read, no_name, CountRead, count_ok, count_err}
+use Rattle.sheet_parts.proofs.Means.{step_at_lem, stop_at, inside_text, fails_within, spelled_ok, spelled_err, met, missed, number_ok, number_err, name_read, no_name, count_ok, count_err}
 
 -- what begins elsewhere goes wrong elsewhere
 failed_from : {X Y : Type 0} (start : X → State) (later : Y → State) (text : List ℕ) (at next place : ℕ) (g : X → Y)
     → ((x : X) → run_at text at (start x) ≡ run_at text next (later (g x))) → Failed later text next place → Failed start text at place
-failed_from start later text at next place g e f = record { stops = λ x. e x ∙ f.stops (g x) }
+failed_from start later text at next place g e f = record { stops = λ x. e x ∙ f.stops (g x); fits = f.fits }
 
 part_failed : {X : Type 0} (start : X → State) (text : List ℕ) (at next byte place : ℕ) (g : X → Around) → ((x : X) → Closes (g x) byte)
     → ((x : X) → run_at text at (start x) ≡ run_at text next (inside (g x))) → FailedPart text next byte place → Failed start text at place
-part_failed start text at next byte place g c e f = record { stops = λ x. e x ∙ f.stops (g x) (c x) }
+part_failed start text at next byte place g c e f = record { stops = λ x. e x ∙ f.stops (g x) (c x); fits = f.fits }
 
 closes_group : (w : AtFactor) → Closes (in_group w) 41
 closes_group w = record { others = λ t b n. cond-false (eqb b 41) _ none (ne_eqb b 41 n); not_end = λ t. refl }
@@ -57,21 +57,24 @@ link_within text at l e n = inside_text text at (λ z. n (ap link_of (sym z) ∙
 
 -- `sum`
 module _ (text : List ℕ) (at : ℕ) (e : start_of (get_or text at 0) ≡ Total) where
+  sum_stands : at < length text
+  sum_stands = start_within text at Total e (λ h. cc)
+
   sum_begins : (w : AtFactor) → run_at text at (want w) ≡ run_at text (at + 1) (due_all (117 ∷ 109 ∷ 40 ∷ []) (want_name (as_first at w)))
-  sum_begins w = step_at_lem text at (want w) (due_all (117 ∷ 109 ∷ 40 ∷ []) (want_name (as_first at w))) (start_within text at Total e (λ h. cc)) (ap (begin at w) e)
+  sum_begins w = step_at_lem text at (want w) (due_all (117 ∷ 109 ∷ 40 ∷ []) (want_name (as_first at w))) sum_stands (ap (begin at w) e)
 
   pub sum_word_failed : (place : ℕ) → Err place ≡ spelled text (at + 1) (117 ∷ 109 ∷ 40 ∷ []) → Failed want text at place
-  sum_word_failed place f = failed_from want (due_all (117 ∷ 109 ∷ 40 ∷ [])) text at (at + 1) place (λ w. want_name (as_first at w)) sum_begins (spelled_err text (at + 1) (117 ∷ 109 ∷ 40 ∷ []) place f)
+  sum_word_failed place f = failed_from want (due_all (117 ∷ 109 ∷ 40 ∷ [])) text at (at + 1) place (λ w. want_name (as_first at w)) sum_begins (spelled_err text (at + 1) (117 ∷ 109 ∷ 40 ∷ []) place (let l = sum_stands in omega arith) f)
 
   module _ (inner : ℕ) (s : Ok inner ≡ spelled text (at + 1) (117 ∷ 109 ∷ 40 ∷ [])) where
     sum_word : Spelled text (at + 1) (117 ∷ 109 ∷ 40 ∷ []) inner
-    sum_word = spelled_ok text (at + 1) (117 ∷ 109 ∷ 40 ∷ []) inner s
+    sum_word = spelled_ok text (at + 1) (117 ∷ 109 ∷ 40 ∷ []) inner (let l = sum_stands in omega arith) s
 
     sum_inner : (w : AtFactor) → run_at text at (want w) ≡ run_at text inner (want_name (as_first at w))
     sum_inner w = sum_begins w ∙ sum_word.runs (want_name (as_first at w))
 
     pub sum_name_failed : (place : ℕ) → NoName text inner place → Failed want text at place
-    sum_name_failed place f = failed_from want want_name text at inner place (λ w. as_first at w) sum_inner (no_name text inner place f)
+    sum_name_failed place f = failed_from want want_name text at inner place (λ w. as_first at w) sum_inner (no_name text inner place sum_word.fits f)
 
     module _ (c next : ℕ) (n : NameAt text inner c next) where
       sum_named : NameRead text inner c next
@@ -81,11 +84,11 @@ module _ (text : List ℕ) (at : ℕ) (e : start_of (get_or text at 0) ≡ Total
       sum_name w = sum_inner w ∙ sum_named.runs (as_first at w)
 
       pub sum_comma_failed : (place : ℕ) → Err place ≡ spelled text next (44 ∷ []) → Failed want text at place
-      sum_comma_failed place f = failed_from want (due_all (44 ∷ [])) text at next place (λ w. want_count at c w) sum_name (spelled_err text next (44 ∷ []) place f)
+      sum_comma_failed place f = failed_from want (due_all (44 ∷ [])) text at next place (λ w. want_count at c w) sum_name (spelled_err text next (44 ∷ []) place sum_named.fits f)
 
       module _ (counted-at : ℕ) (k : Ok counted-at ≡ spelled text next (44 ∷ [])) where
         sum_spelled : Spelled text next (44 ∷ []) counted-at
-        sum_spelled = spelled_ok text next (44 ∷ []) counted-at k
+        sum_spelled = spelled_ok text next (44 ∷ []) counted-at sum_named.fits k
 
         sum_comma : (w : AtFactor) → run_at text at (want w) ≡ run_at text counted-at (want_count at c w)
         sum_comma w = sum_name w ∙ sum_spelled.runs (want_count at c w)
@@ -93,46 +96,52 @@ module _ (text : List ℕ) (at : ℕ) (e : start_of (get_or text at 0) ≡ Total
         pub sum_count_failed : (place : ℕ) → Err place ≡ count_in text counted-at c → Failed want text at place
         sum_count_failed place e =
             let f = count_err text counted-at c place e in
-            record { stops = λ w. sum_comma w ∙ (stop_at text counted-at (want_count at c w) (f.refused at w) refl ∙ ap fails (sym f.place_is)) }
+            record {
+              stops = λ w. sum_comma w ∙ (stop_at text counted-at (want_count at c w) (f.refused at w) refl ∙ ap fails (sym f.place_is));
+              fits = let a = f.place_is in let b = sum_spelled.fits in omega arith;
+            }
 
         module _ (first d : ℕ) (q : Ok (first, d) ≡ count_in text counted-at c) where
-          sum_counted : CountRead text counted-at c first d
+          sum_counted : (first ≡ c) × CountRead text counted-at c d
           sum_counted = count_ok text counted-at c first d q
 
           pub sum_within : counted-at < length text
-          sum_within = sum_counted.within
+          sum_within = sum_counted.1.within
 
           sum_count : (w : AtFactor) → run_at text at (want w) ≡ run_at text (counted-at + 1) (due_all (41 ∷ []) (have (hand (total at c d) w)))
           sum_count w = sum_comma w ∙ step_at_lem text counted-at (want_count at c w) (due 41 [] (have (hand (total at c d) w))) sum_within
-              (let r = sum_counted in ap (counted at c w) r.is ∙ (ap (counted at c w) (sym (digit_at d (omega (arith, r.few)))) ∙ count_good at c d w r.some_cell r.few r.last))
+              (let r = sum_counted.1 in ap (counted at c w) r.is ∙ (ap (counted at c w) (sym (digit_at d (omega (arith, r.few)))) ∙ count_good at c d w r.some_cell r.few r.last))
 
           pub sum_close_failed : (place : ℕ) → Err place ≡ spelled text (counted-at + 1) (41 ∷ []) → Failed want text at place
           sum_close_failed place f =
-              failed_from want (due_all (41 ∷ [])) text at (counted-at + 1) place (λ w. have (hand (total at c d) w)) sum_count (spelled_err text (counted-at + 1) (41 ∷ []) place f)
+              failed_from want (due_all (41 ∷ [])) text at (counted-at + 1) place (λ w. have (hand (total at c d) w)) sum_count (spelled_err text (counted-at + 1) (41 ∷ []) place (let l = sum_within in omega arith) f)
 
           pub sum_took : (last : ℕ) (answers : List Whole) (from : Flow) (got : Worked) → Ok last ≡ spelled text (counted-at + 1) (41 ∷ []) → outcome_of answers got ≡ go_on answers from (totalled at first d (pos 0))
               → Took want factor_after text at answers from got last
           sum_took last answers from got y g =
-              let z = spelled_ok text (counted-at + 1) (41 ∷ []) last y in
+              let z = spelled_ok text (counted-at + 1) (41 ∷ []) last (let l = sum_within in omega arith) y in
               record {
                 tree = total at c d;
                 runs = λ w. sum_count w ∙ z.runs (have (hand (total at c d) w));
-                works = subst (λ f. outcome_of answers got ≡ go_on answers from (totalled at f d (pos 0))) sum_counted.first_is g;
+                works = subst (λ f. outcome_of answers got ≡ go_on answers from (totalled at f d (pos 0))) sum_counted.0 g;
                 onward = let a = sum_word.next_is in let b = sum_named.onward in let x = sum_spelled.next_is in let v = z.next_is in omega arith;
-                fits = let w = sum_within in z.fits (omega arith);
+                fits = z.fits;
               }
 
 -- `at`
 module _ (text : List ℕ) (at : ℕ) (e : start_of (get_or text at 0) ≡ Lookup) where
+  lookup_stands : at < length text
+  lookup_stands = start_within text at Lookup e (λ h. cc)
+
   lookup_begins : (w : AtFactor) → run_at text at (want w) ≡ run_at text (at + 1) (due_all (116 ∷ 40 ∷ []) (inside (in_lookup at w)))
-  lookup_begins w = step_at_lem text at (want w) (due_all (116 ∷ 40 ∷ []) (inside (in_lookup at w))) (start_within text at Lookup e (λ h. cc)) (ap (begin at w) e)
+  lookup_begins w = step_at_lem text at (want w) (due_all (116 ∷ 40 ∷ []) (inside (in_lookup at w))) lookup_stands (ap (begin at w) e)
 
   pub lookup_word_failed : (place : ℕ) → Err place ≡ spelled text (at + 1) (116 ∷ 40 ∷ []) → Failed want text at place
-  lookup_word_failed place f = failed_from want (due_all (116 ∷ 40 ∷ [])) text at (at + 1) place (λ w. inside (in_lookup at w)) lookup_begins (spelled_err text (at + 1) (116 ∷ 40 ∷ []) place f)
+  lookup_word_failed place f = failed_from want (due_all (116 ∷ 40 ∷ [])) text at (at + 1) place (λ w. inside (in_lookup at w)) lookup_begins (spelled_err text (at + 1) (116 ∷ 40 ∷ []) place (let l = lookup_stands in omega arith) f)
 
   module _ (inner : ℕ) (s : Ok inner ≡ spelled text (at + 1) (116 ∷ 40 ∷ [])) where
     lookup_word : Spelled text (at + 1) (116 ∷ 40 ∷ []) inner
-    lookup_word = spelled_ok text (at + 1) (116 ∷ 40 ∷ []) inner s
+    lookup_word = spelled_ok text (at + 1) (116 ∷ 40 ∷ []) inner (let l = lookup_stands in omega arith) s
 
     lookup_inner : (w : AtFactor) → run_at text at (want w) ≡ run_at text inner (inside (in_lookup at w))
     lookup_inner w = lookup_begins w ∙ lookup_word.runs (inside (in_lookup at w))
@@ -152,15 +161,18 @@ module _ (text : List ℕ) (at : ℕ) (e : start_of (get_or text at 0) ≡ Looku
 
 -- `if`
 module _ (text : List ℕ) (at : ℕ) (e : start_of (get_or text at 0) ≡ Choice) where
+  choice_stands : at < length text
+  choice_stands = start_within text at Choice e (λ h. cc)
+
   choice_begins : (w : AtFactor) → run_at text at (want w) ≡ run_at text (at + 1) (due_all (102 ∷ 40 ∷ []) (inside (in_first w)))
-  choice_begins w = step_at_lem text at (want w) (due_all (102 ∷ 40 ∷ []) (inside (in_first w))) (start_within text at Choice e (λ h. cc)) (ap (begin at w) e)
+  choice_begins w = step_at_lem text at (want w) (due_all (102 ∷ 40 ∷ []) (inside (in_first w))) choice_stands (ap (begin at w) e)
 
   pub choice_word_failed : (place : ℕ) → Err place ≡ spelled text (at + 1) (102 ∷ 40 ∷ []) → Failed want text at place
-  choice_word_failed place f = failed_from want (due_all (102 ∷ 40 ∷ [])) text at (at + 1) place (λ w. inside (in_first w)) choice_begins (spelled_err text (at + 1) (102 ∷ 40 ∷ []) place f)
+  choice_word_failed place f = failed_from want (due_all (102 ∷ 40 ∷ [])) text at (at + 1) place (λ w. inside (in_first w)) choice_begins (spelled_err text (at + 1) (102 ∷ 40 ∷ []) place (let l = choice_stands in omega arith) f)
 
   module _ (inner : ℕ) (s : Ok inner ≡ spelled text (at + 1) (102 ∷ 40 ∷ [])) where
     choice_word : Spelled text (at + 1) (102 ∷ 40 ∷ []) inner
-    choice_word = spelled_ok text (at + 1) (102 ∷ 40 ∷ []) inner s
+    choice_word = spelled_ok text (at + 1) (102 ∷ 40 ∷ []) inner (let l = choice_stands in omega arith) s
 
     choice_inner : (w : AtFactor) → run_at text at (want w) ≡ run_at text inner (inside (in_first w))
     choice_inner w = choice_begins w ∙ choice_word.runs (inside (in_first w))
@@ -233,7 +245,7 @@ pub number_took : (text : List ℕ) (at d : ℕ) (v : Whole) (next : ℕ) (answe
     → outcome_of answers w ≡ go_on answers from (value (whole_means v)) → Took want factor_after text at answers from w next
 number_took text at d v next answers from w s e g =
     let r = number_ok text at d v next s e in
-    record { tree = number r.n; runs = r.runs; works = g ∙ value_flow answers from v r.n (within_is r.n v r.value_is r.limit); onward = r.onward; fits = r.fits }
+    record { tree = number r.0; runs = r.2.runs; works = g ∙ value_flow answers from v r.0 (within_is r.0 v r.1 r.2.limit); onward = r.2.onward; fits = r.2.fits }
 
 pub number_failed : (text : List ℕ) (at d place : ℕ) → start_of (get_or text at 0) ≡ Digit d → Err place ≡ number_in text at → Failed want text at place
 number_failed text at d place s e = number_err text at d place s e
@@ -251,10 +263,12 @@ pub name_took : (text : List ℕ) (at x c next : ℕ) (answers : List Whole) (fr
 name_took text at x c next answers from w e n g = let r = name_read text at c next n in record { tree = cell c; runs = λ y. name_begins_lem text at x e y ∙ r.runs (as_factor y); works = g; onward = r.onward; fits = r.fits }
 
 pub cell_failed : (text : List ℕ) (at x place : ℕ) → start_of (get_or text at 0) ≡ Column x → NoName text at place → Failed want text at place
-cell_failed text at x place e f = failed_from want want_name text at at place as_factor (name_begins_lem text at x e) (no_name text at place f)
+cell_failed text at x place e f =
+    let l = start_within text at (Column x) e (λ h. cc) in
+    failed_from want want_name text at at place as_factor (name_begins_lem text at x e) (no_name text at place (omega arith) f)
 
-pub other_failed : (text : List ℕ) (at : ℕ) → start_of (get_or text at 0) ≡ Other → Failed want text at at
-other_failed text at e = record { stops = λ w. stop_at text at (want w) (ap (begin at w) e) refl }
+pub other_failed : (text : List ℕ) (at : ℕ) → at ≤ length text → start_of (get_or text at 0) ≡ Other → Failed want text at at
+other_failed text at l e = record { stops = λ w. stop_at text at (want w) (ap (begin at w) e) refl; fits = l }
 
 -- a formula and the byte that ends it
 loose_step : (text : List ℕ) (at : ℕ) (t : Tree) (k : Around) → link_of (get_or text at 0) ≡ Loose → step at (formula_after t k) (get_or text at 0) ≡ shut t k (get_or text at 0)
@@ -277,6 +291,7 @@ pub part_missed : (text : List ℕ) (at byte next place : ℕ) (answers : List W
     → 0 < byte → Err place ≡ spelled text next (byte ∷ []) → FailedPart text at byte place
 part_missed text at byte next place answers from w p e z o = let m = missed text next byte place z o in record {
   stops = λ k c. p.runs k ∙ (stop_at text next (formula_after p.tree k) (loose_step text next p.tree k e ∙ c.others p.tree (get_or text next 0) m.is_not) (c.not_end p.tree) ∙ ap fails (sym m.place_is));
+  fits = let a = p.fits in let b = m.place_is in omega arith;
 }
 
 -- factors joined
@@ -317,21 +332,6 @@ module _ (text : List ℕ) (at next : ℕ) (answers : List Whole) (from : Flow) 
     onward = let a = p.onward in let b = q.onward in omega arith;
     fits = q.fits;
   }
-
--- a text goes wrong no later than at its end
-ended_at : (at : ℕ) (o : Option Tree) (p : ℕ) → ended at o ≡ fails p → p ≤ at
-ended_at at none p e = let q : at ≡ p = cc in omega arith
-ended_at at (some t) p e = absurd (let z : ◌≡◌ {A = ℕ} 0 1 = cc in omega arith)
-
-onward_within : (at n : ℕ) (o : Option State) (f : State → Reading) (p : ℕ) → ((st : State) → f st ≡ fails p → p ≤ n) → at ≤ n → onward at o f ≡ fails p → p ≤ n
-onward_within at n none f p h l e = let q : at ≡ p = cc in omega arith
-onward_within at n (some st) f p h l e = h st e
-
-fails_within : (xs : List ℕ) (at : ℕ) (st : State) (p : ℕ) → run at st xs ≡ fails p → p ≤ at + length xs
-unfolding run
-fails_within [] at st p e = let l = ended_at at (end st) p e in omega arith
-fails_within (b ∷ bs) at st p e = onward_within at (at + length (b ∷ bs)) (step at st b) (λ next. run (at + 1) next bs) p
-    (λ next f. let l = fails_within bs (at + 1) next p f in omega arith) (omega arith) e
 
 failed_short : (text : List ℕ) (place : ℕ) → length text ≤ text_limit → reading text ≡ fails place → WholeFailed text place
 failed_short text place l e = record { short = λ k. e; long = λ k. absurd (omega arith); fits = let w = fails_within text 0 (inside whole) place e in omega arith }

@@ -1,5 +1,5 @@
 -- What the reading functions have read, in the words of the reader of formulas.
-use Rattle.std.specs.Prelude.{◌≡◌, ℕ, ◌<◌, ◌≤◌, List, length, drop, ◌≢◌, slice_index}
+use Rattle.std.specs.Prelude.{◌≡◌, ℕ, ◌<◌, ◌≤◌, List, length, ◌≢◌, slice_index}
 use Rattle.std.proofs.Math.Option.{none, some}
 use Rattle.interfaces.specs.Cells.{text_limit}
 use Rattle.whole.specs.declared.Whole.{Whole}
@@ -8,16 +8,9 @@ use Rattle.formula.specs.declared.byte.Link.TheVariants.{Strong}
 use Rattle.formula.specs.Bytes.{link_of}
 use Rattle.formula.specs.Grammar.{Tree}
 use Rattle.formula.specs.Meaning.{work}
-use Rattle.formula.specs.Reader.{Around, AtTerm, first_term, AtFactor, first_factor, State, want, have, inside, hand, shut, finish, Reading, reads, fails, run, reading}
+use Rattle.formula.specs.Reader.{Around, AtTerm, first_term, AtFactor, first_factor, State, want, have, inside, hand, shut, finish, reads, fails, reading}
 use Rattle.sheet_work.specs.Flows.{Flow, Worked, outcome_of, work_from}
-
--- what the text comes to from a place and a state on
-abbrev pub run_at : List ℕ → ℕ → State → Reading
-run_at text at st = run at st (drop at text)
-
--- the text goes wrong at the place, whatever waits for what begins there
-pub record Failed {X : Type 0} (start : X → State) (text : List ℕ) (at place : ℕ) : Type 0 where
-  pub stops : (x : X) → run_at text at (start x) ≡ fails place
+use Rattle.sheet_parts.specs.Tokens.{run_at}
 
 -- the states before and after a factor, a term and a formula, whatever waits for it
 abbrev pub factor_after : Tree → AtFactor → State
@@ -59,6 +52,7 @@ pub record TookPart (text : List ℕ) (at : ℕ) (answers : List Whole) (from : 
 
 pub record FailedPart (text : List ℕ) (at byte place : ℕ) : Type 0 where
   pub stops : (k : Around) → Closes k byte → run_at text at (inside k) ≡ fails place
+  pub fits : place ≤ length text
 
 -- the whole text was read and worked out; it is no longer than a definition may be
 pub record WholeRead (text : List ℕ) (answers : List Whole) (got : Worked) : Type 0 where

@@ -6,7 +6,8 @@ ghost use Rattle.std.specs.Prelude.{◌≡◌, ℕ, ◌+◌, ◌<◌, ◌≤◌,
 ghost use Rattle.interfaces.specs.Cells.{text_limit};
 ghost use Rattle.formula.specs.Bytes.{link_of, start_of};
 ghost use Rattle.formula.specs.Reader.{want, inside};
-ghost use Rattle.sheet_reader.specs.Readers.{Failed, Took, NoProduct, TookPart, FailedPart, factor_after, term_start, term_after, formula_after, WholeRead, WholeFailed};
+ghost use Rattle.sheet_parts.specs.Tokens.{Failed};
+ghost use Rattle.sheet_reader.specs.Readers.{Took, NoProduct, TookPart, FailedPart, factor_after, term_start, term_after, formula_after, WholeRead, WholeFailed};
 
 use formula::byte::{Link, Start};
 use interfaces::cell::TEXT;
