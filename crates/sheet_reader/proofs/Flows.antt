@@ -1,11 +1,11 @@
 -- The work on a formula, part by part: what the parts come to, from where the work had come to before them.
-use Rattle.std.proofs.Common.{◌≡◌, ℕ, cond, List, drop, Ok, Err, ap, ◌∙◌, arith}
+use Rattle.std.proofs.Common.{◌≡◌, ℕ, cond, List, drop, ℤ, Ok, Err, ap, ◌∙◌, arith}
 use Rattle.whole.specs.declared.Whole.{Whole}
 use Rattle.whole.specs.Whole.{whole_means}
 use Rattle.formula.specs.declared.byte.Operator.{Operator}
 use Rattle.formula.specs.Grammar.{Tree, negated, joined, choice, lookup}
-use Rattle.formula.specs.Meaning.{and_then, is_zero, operated, looked_up, work}
-use Rattle.sheet_work.specs.Flows.{Flow, Worked, flow_after, outcome_of, work_from, negation, operation, chosen}
+use Rattle.formula.specs.Meaning.{Outcome, and_then, is_zero, operated, looked_up, work}
+use Rattle.sheet_work.specs.Flows.{Flow, Worked, flow_after, outcome_of, go_on, work_from, negation, operation, chosen}
 
 pub negated_flow : (answers : List Whole) (from : Flow) (t : Tree) (w r : Worked) → outcome_of answers w ≡ work_from answers from t
     → outcome_of answers r ≡ and_then (outcome_of answers w) negation → outcome_of answers r ≡ work_from answers from (negated t)
@@ -16,6 +16,12 @@ pub lookup_flow : (answers : List Whole) (from : Flow) (mark : ℕ) (t : Tree) (
     → outcome_of answers r ≡ and_then (outcome_of answers w) (looked_up mark) → outcome_of answers r ≡ work_from answers from (lookup mark t)
 lookup_flow answers (Ok used) mark t w r e f = f ∙ ap (λ o. and_then o (looked_up mark)) e
 lookup_flow answers (Err s) mark t w r e f = f ∙ ap (λ o. and_then o (looked_up mark)) e
+
+-- what comes after a part, from where that part ended
+pub then_flow : (answers : List Whole) (from : Flow) (t : Tree) (w : Worked) (f : ℤ → List Whole → Outcome) → outcome_of answers w ≡ work_from answers from t
+    → and_then (outcome_of answers w) f ≡ go_on answers from (λ rest. and_then (work t rest) f)
+then_flow answers (Ok used) t w f e = ap (λ o. and_then o f) e
+then_flow answers (Err s) t w f e = ap (λ o. and_then o f) e
 
 pub joined_flow : (answers : List Whole) (from flow : Flow) (o : Operator) (mark : ℕ) (t u : Tree) (w x r : Worked) → outcome_of answers w ≡ work_from answers from t
     → flow ≡ flow_after w → outcome_of answers x ≡ work_from answers flow u → outcome_of answers r ≡ operation o mark (outcome_of answers w) (outcome_of answers x)

@@ -14,7 +14,7 @@ use Rattle.formula.specs.declared.byte.Start.TheVariants.{Negation, Group, Choic
 use Rattle.formula.specs.Bytes.{link_of, column_of, start_of}
 use Rattle.formula.specs.Grammar.{Tree, number, cell, negated, joined, choice, lookup, total}
 use Rattle.formula.specs.Meaning.{value, and_then, asked, looked_up, totalled}
-use Rattle.formula.specs.Reader.{Around, whole, in_group, in_first, in_second, in_third, in_lookup, AtTerm, first_term, after_sum, AtFactor, after_product, behind_minus, as_factor, as_first, State, want, have, want_name, want_row, due, want_count, due_all, inside, hand, begin, shut, link, name_begins, counted, step, fails, run, reading}
+use Rattle.formula.specs.Reader.{Around, whole, in_group, in_first, in_second, in_third, in_lookup, AtTerm, first_term, after_sum, AtFactor, first_factor, after_product, behind_minus, as_factor, as_first, State, want, have, want_name, want_row, due, want_count, due_all, inside, hand, begin, shut, link, name_begins, counted, step, fails, run, reading}
 use Rattle.formula.proofs.Bytes.{start_column_is, column_at_lem, digit_at}
 use Rattle.formula.proofs.Runs.{run_end, run_stop, NoStrong, sum_ends, count_good}
 use Rattle.sheet_work.specs.Flows.{Flow, Worked, flow_after, outcome_of, go_on, work_from, negation, operation, chosen}
@@ -56,6 +56,9 @@ pub link_within : (text : List ℕ) (at : ℕ) (l : Link) → link_of (get_or te
 link_within text at l e n = inside_text text at (λ z. n (ap link_of (sym z) ∙ e))
 
 -- `sum`
+pub sum_works : (answers : List Whole) (from : Flow) (got : Worked) (mark f c d : ℕ) → f ≡ c → outcome_of answers got ≡ go_on answers from (totalled mark f d (pos 0)) → outcome_of answers got ≡ go_on answers from (totalled mark c d (pos 0))
+sum_works answers from got mark f c d e g = rw (← e) g
+
 module _ (text : List ℕ) (at : ℕ) (e : start_of (get_or text at 0) ≡ Total) where
   sum_stands : at < length text
   sum_stands = start_within text at Total e (λ h. cc)
@@ -294,7 +297,16 @@ part_missed text at byte next place answers from w p e z o = let m = missed text
   fits = let a = p.fits in let b = m.place_is in omega arith;
 }
 
+pub part_fails : (text : List ℕ) (at byte place : ℕ) → Failed inside text at place → FailedPart text at byte place
+part_fails text at byte place f = record { stops = λ k c. f.stops k; fits = f.fits }
+
 -- factors joined
+pub term_first : (text : List ℕ) (at next : ℕ) (answers : List Whole) (from : Flow) (w : Worked) → Took want factor_after text at answers from w next → Took term_start term_after text at answers from w next
+term_first text at next answers from w p = record { tree = p.tree; runs = λ x. p.runs (first_factor x); works = p.works; onward = p.onward; fits = p.fits }
+
+pub term_first_failed : (text : List ℕ) (at place : ℕ) → Failed want text at place → Failed term_start text at place
+term_first_failed text at place f = record { stops = λ x. f.stops (first_factor x); fits = f.fits }
+
 module _ (text : List ℕ) (at next : ℕ) (answers : List Whole) (from : Flow) (w : Worked) (o : Operator) (p : Took term_start term_after text at answers from w next) (e : link_of (get_or text next 0) ≡ Strong o) where
   term_links : (x : AtTerm) → run_at text at (term_start x) ≡ run_at text (next + 1) (want (after_product p.tree o next x))
   term_links x = p.runs x ∙ step_at_lem text next (term_after p.tree x) (want (after_product p.tree o next x)) (link_within text next (Strong o) e (λ h. cc)) (ap (link next (record { tree = p.tree; wait = x }) (get_or text next 0)) e)
@@ -315,6 +327,17 @@ module _ (text : List ℕ) (at next : ℕ) (answers : List Whole) (from : Flow) 
 -- terms joined
 no_strong : (text : List ℕ) (at : ℕ) → NoProduct text at → NoStrong (drop at text)
 no_strong text at n = ⊎_elim (λ l. rw (drop_more text at 0 l) n) (λ l. rw (drop_all at text l) tt) (cases_lt at (length text))
+
+pub formula_first : (text : List ℕ) (at next : ℕ) (answers : List Whole) (from : Flow) (w : Worked) → Took term_start term_after text at answers from w next → Took inside formula_after text at answers from w next
+formula_first text at next answers from w p = record { tree = p.tree; runs = λ k. p.runs (first_term k); works = p.works; onward = p.onward; fits = p.fits }
+
+pub formula_first_failed : (text : List ℕ) (at place : ℕ) → Failed term_start text at place → Failed inside text at place
+formula_first_failed text at place f = record { stops = λ k. f.stops (first_term k); fits = f.fits }
+
+pub neither : (l : Link) → ((o : Operator) → l ≡ Weak o → ⊥) → ((o : Operator) → l ≡ Strong o → ⊥) → l ≡ Loose
+neither (Weak o) m n = absurd (m o refl)
+neither (Strong o) m n = absurd (n o refl)
+neither Loose m n = refl
 
 module _ (text : List ℕ) (at next : ℕ) (answers : List Whole) (from : Flow) (w : Worked) (o : Operator) (p : Took inside formula_after text at answers from w next) (e : link_of (get_or text next 0) ≡ Weak o) where
   formula_links : (k : Around) → run_at text at (inside k) ≡ run_at text (next + 1) (term_start (after_sum p.tree o next k))
