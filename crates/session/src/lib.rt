@@ -14,6 +14,7 @@ use interfaces::cell::{CELLS, Cell};
 use interfaces::refusal::Refusal;
 use interfaces::store::Store;
 use interfaces::value::{Printed, Value};
+use memchr::memchr;
 use script::lines::{Kind, Line, SCRIPT};
 use script::reading::{read_line, read_opening};
 use std::alloc::{AllocError, Global};
@@ -32,7 +33,7 @@ fn cut_line(bytes: &[u8]) -> (&[u8], &[u8])
     ensures cut { Cut bytes.now result.0.now result.1.now }
     ensures less { length result.1.now < length bytes.now }
 {
-    match bytes.iter().position(|byte| *byte == BREAK) {
+    match memchr(BREAK, bytes) {
         Some(place) => (&bytes[..place], &bytes[place + 1..]),
         None => (bytes, &[]),
     }
