@@ -32,6 +32,12 @@ row_decimal r l = ⊎_elim
     (λ s. let t = decimal_step r s (omega arith) in let d = decimal_digit (r / 10) (omega arith) in let q = long_row r s in cc)
     (cases_lt r 10)
 
+pub short_length : (r : ℕ) → r < 10 → length (decimal r) ≡ 1
+short_length r l = ap length (decimal_digit r l)
+
+pub long_length : (r : ℕ) → 10 ≤ r → r ≤ row_count → length (decimal r) ≡ 2
+long_length r g l = ap length (row_decimal r l ∙ long_row r g)
+
 -- the bytes of the name of `m`, which stands at the place
 pub record Stands (text : List ℕ) (at m : ℕ) : Type 0 where
   pub column : ByteAt text at (65 + m / row_count)

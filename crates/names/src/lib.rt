@@ -1,14 +1,14 @@
 // The names of cells, read and written.
 #![tactic(auto)]
 
-ghost use Rattle.std.specs.Prelude.{◌≡◌, ℕ, ◌+◌, ◌<◌, ◌≤◌, length, MatchOption, MatchResult, slice_index};
+ghost use Rattle.std.specs.Prelude.{◌≡◌, ℕ, ◌+◌, ◌<◌, ◌≤◌, length, decimal, MatchOption, MatchResult, slice_index};
 ghost use Rattle.interfaces.specs.Cells.{cell_count, number_of};
 ghost use Rattle.interfaces.specs.Printing.{written_bytes};
-ghost use Rattle.names.specs.Names.{ByteAt, byte_stands, column_count, name_of, OffsetAt, NameAt, NoNameAt, left_at, LeftAt, Named, OneName};
+ghost use Rattle.names.specs.Names.{ByteAt, byte_stands, column_count, row_count, name_of, OffsetAt, NameAt, NoNameAt, left_at, LeftAt, Named, OneName};
 
 use interfaces::cell::{CELLS, Cell};
-use interfaces::written::Written;
-use itoa::Buffer;
+use interfaces::written::{WRITTEN, Written};
+use itoa::write_digits;
 
 /// Columns A to P.
 pub const COLUMNS: usize = 16;
@@ -97,8 +97,21 @@ pub fn write_name(cell: Cell) -> Written
 {
     let column = b'A' + (cell.number() / ROWS) as u8;
     let row = cell.number() % ROWS + 1;
-    let mut digits = Buffer::new();
-    Written::from_pieces(&[column], digits.format(row).as_bytes()).unwrap()
+    let len = name_len(row);
+    let mut bytes = [0; WRITTEN];
+    bytes[0] = column;
+    // in place: a form that is put together elsewhere and moved has to wait for its bytes
+    write_digits(row as u64, &mut bytes, len);
+    Written { bytes, len }
+}
+
+// How many bytes a name in this row has.
+fn name_len(row: usize) -> usize
+    requires { row ≤ row_count }
+    ensures all { 1 + length (decimal row) ≡ result }
+    ensures few { result ≤ 3 }
+{
+    if row < 10 { 2 } else { 3 }
 }
 
 /// Cells with one name are one cell.
